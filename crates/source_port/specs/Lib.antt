@@ -1,0 +1,4 @@
+pub mod Faults
+pub mod Library
+pub mod Memory
+pub mod Written
