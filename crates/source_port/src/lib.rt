@@ -2,6 +2,7 @@
 //! bytes are fetched from and sinks that bytes are put to.
 #![tactic(auto)]
 
+mod files;
 mod job;
 mod key;
 mod library;
@@ -9,11 +10,13 @@ mod memory_sink;
 mod memory_source;
 mod sink;
 mod source;
+mod standard_output;
 mod steady_source;
 mod steps;
 mod text;
 mod want;
 
+pub use files::DirSource;
 pub use job::Job;
 pub use key::{Key, Kind, Refine};
 pub use library::{FileList, KeyList, NamedFile, NumberList, TextList};
@@ -21,6 +24,7 @@ pub use memory_sink::MemorySink;
 pub use memory_source::MemorySource;
 pub use sink::{PutError, Sink};
 pub use source::{FetchError, LibraryName, Source};
+pub use standard_output::StdSink;
 pub use steady_source::SteadySource;
 pub use steps::Steps;
 pub use text::Text;

@@ -1,0 +1,146 @@
+ghost use Rattle.std.specs.Prelude.{◌≤◌, IfOk, IfSome, length};
+
+use crate::source::{FetchError, LibraryName, Source};
+use std::alloc::{AllocError, Global};
+use std::io::{ErrorKind, Read};
+use std::marker::Model;
+use std::rt::Files;
+use std::{fs, io};
+
+/// How many bytes are read at a time.
+const PIECE: usize = 16384;
+
+/// The files below the current folder, at addresses that begin with `http://tiles/`. The query and the
+/// fragment of an address aren't looked at. A path that leaves the folder, has an empty segment or a byte
+/// other than ASCII letters, digits, `-`, `.`, `_`, `~` and `/` is missing. It doesn't tell its library.
+#[derive(Drop)]
+pub struct DirSource<R> {
+    rt: R,
+    faults: u64,
+}
+
+impl<R> Model for DirSource<R> {
+    ghost use Rattle.std.specs.Prelude.{ℕ};
+
+    ghost Value = { ℕ };
+
+    ghost view = { λ s. s.faults };
+}
+
+impl<R: Files + Clone + Drop> DirSource<R> {
+    ghost use Rattle.std.specs.Prelude.{◌≡◌};
+
+    /// A source over the files that the runtime reaches. Contracts see it as its count of faults.
+    pub fn new(rt: R) -> DirSource<R>
+        ensures { result ≡ 0 }
+    {
+        DirSource { rt, faults: 0 }
+    }
+}
+
+impl<R: Files + Clone + Drop> LibraryName for DirSource<R> {
+    ghost use Rattle.std.specs.Prelude.{None};
+
+    ghost library = { λ _. None };
+}
+
+impl<R: Files + Clone + Drop> Source for DirSource<R> {
+    ghost faults = { λ s. s };
+
+    fn fetch(
+        &mut self,
+        alloc: Global,
+        address: &str,
+        limit: u32,
+        into: &mut Vec<u8>,
+    ) -> Result<(), FetchError> {
+        let Some(path) = path_of(address) else {
+            return Err(FetchError::Missing);
+        };
+        match read_file(&self.rt, alloc, path, limit) {
+            Ok(bytes) => {
+                *into = bytes;
+                Ok(())
+            }
+            Err(FetchError::Failed) => {
+                self.faults = self.faults.saturating_add(1);
+                Err(FetchError::Failed)
+            }
+            Err(error) => Err(error),
+        }
+    }
+
+    fn fork(&self, _alloc: Global) -> Result<DirSource<R>, AllocError> {
+        Ok(DirSource::new(self.rt.clone()?))
+    }
+
+    fn faults(&self) -> u64 {
+        self.faults
+    }
+}
+
+/// The path that an address names below the current folder.
+fn path_of(address: &str) -> Option<&str> {
+    let path = address.strip_prefix("http://tiles/")?;
+    let path = path.split_once('#').map_or(path, |parts| parts.0);
+    let path = path.split_once('?').map_or(path, |parts| parts.0);
+    if path.split('/').all(is_segment) {
+        Some(path)
+    } else {
+        None
+    }
+}
+
+fn is_segment(segment: &str) -> bool {
+    !segment.is_empty()
+        && segment != "."
+        && segment != ".."
+        && segment.bytes().all(|byte| byte.is_ascii_alphanumeric() || b"-._~".contains(&byte))
+}
+
+/// The bytes of a file, at most `limit` of them.
+fn read_file<R: Files>(
+    rt: &R,
+    alloc: Global,
+    path: &str,
+    limit: u32,
+) -> Result<Vec<u8>, FetchError>
+    ensures { IfOk result (λ bytes. length bytes.items ≤ limit) }
+{
+    let mut file = match fs::open(rt, path) {
+        Ok(file) => file,
+        Err(error) => return Err(cause_of(&error)),
+    };
+    let mut bytes = Vec::new(alloc);
+    let mut piece = [0; PIECE];
+    for _ in 0..u64::MAX {
+        match file.read(&mut piece) {
+            Ok(0) => return Ok(bytes),
+            Ok(count) => push_within(&mut bytes, &piece[..count], limit)?,
+            Err(error) if error.kind() == ErrorKind::Interrupted => {}
+            Err(error) => return Err(cause_of(&error)),
+        }
+    }
+    Err(FetchError::Failed)
+}
+
+fn cause_of(error: &io::Error) -> FetchError {
+    match error.kind() {
+        ErrorKind::NotFound => FetchError::Missing,
+        ErrorKind::OutOfMemory => FetchError::OutOfMemory,
+        _ => FetchError::Failed,
+    }
+}
+
+fn push_within(bytes: &mut Vec<u8>, piece: &[u8], limit: u32) -> Result<(), FetchError>
+    requires { length bytes.old.items ≤ limit }
+    ensures { length bytes.new.items ≤ limit }
+{
+    if piece.len() > limit as usize - bytes.len() {
+        return Err(FetchError::TooLong);
+    }
+    if bytes.extend_from_slice(piece).is_err() {
+        return Err(FetchError::OutOfMemory);
+    }
+    Ok(())
+}
