@@ -44,6 +44,7 @@ module _ {H E B : Type 0} (facts : H → Facts E B) (names : E → Option ℕ) (
   abbrev w2 : St → ℕ
   w2 s = get_or s.words 2 0
 
+  -- how often the view answers for the number n
   abbrev count : ℕ → V → ℕ
   count n v = times n (accounts v)
 
@@ -51,15 +52,19 @@ module _ {H E B : Type 0} (facts : H → Facts E B) (names : E → Option ℕ) (
   ruled : {s : St} → length s.words ≡ 3 → Rs (w0 s) (w1 s) (w2 s) s.homes s.views → R s
   ruled wide r = record { three_words = wide; holds = r; parts = parts_of r }
 
+  -- the rule with word 0 set
   set_0 : (s : St) (m : ℕ) (hs : Hs) (vs : List V) → length s.words ≡ 3 → Rs m (w1 s) (w2 s) hs vs → R record { words = set s.words 0 m; homes = hs; views = vs }
   set_0 s m hs vs wide r = ruled (length-set s.words 0 m ∙ wide) (by_words facts names lawful sound m (w1 s) (w2 s) _ _ _ hs vs (get_or-set_same s.words 0 m 0 (omega arith)) (get_or-set_other s.words 0 1 m 0 (λ e. omega arith)) (get_or-set_other s.words 0 2 m 0 (λ e. omega arith)) r)
 
+  -- with word 1 set
   set_1 : (s : St) (m : ℕ) (hs : Hs) (vs : List V) → length s.words ≡ 3 → Rs (w0 s) m (w2 s) hs vs → R record { words = set s.words 1 m; homes = hs; views = vs }
   set_1 s m hs vs wide r = ruled (length-set s.words 1 m ∙ wide) (by_words facts names lawful sound (w0 s) m (w2 s) _ _ _ hs vs (get_or-set_other s.words 1 0 m 0 (λ e. omega arith)) (get_or-set_same s.words 1 m 0 (omega arith)) (get_or-set_other s.words 1 2 m 0 (λ e. omega arith)) r)
 
+  -- with word 2 set
   set_2 : (s : St) (m : ℕ) (hs : Hs) (vs : List V) → length s.words ≡ 3 → Rs (w0 s) (w1 s) m hs vs → R record { words = set s.words 2 m; homes = hs; views = vs }
   set_2 s m hs vs wide r = ruled (length-set s.words 2 m ∙ wide) (by_words facts names lawful sound (w0 s) (w1 s) m _ _ _ hs vs (get_or-set_other s.words 2 0 m 0 (λ e. omega arith)) (get_or-set_other s.words 2 1 m 0 (λ e. omega arith)) (get_or-set_same s.words 2 m 0 (omega arith)) r)
 
+  -- a prefix is no longer
   prefix_le : (xs ys : List E) → IsPrefix xs ys → length xs ≤ length ys
   prefix_le xs ys p = let e : length ys ≡ length xs + length p.0 = ap length (sym p.1) ∙ length-append xs p.0 in omega arith
 
@@ -144,6 +149,7 @@ module _ {H E B : Type 0} (facts : H → Facts E B) (names : E → Option ℕ) (
     (refl, omega arith),
   )
 
+  -- kind 6, of word 2
   pub sees : (slots id : ℕ) (me : M) → Allows R slots id me 2 (λ n. n) (ReadsNext (step slots 2 0 0 none) me)
   sees slots id me s q one_slot at small = (
     drawn_view me.0 (w2 s),
@@ -180,6 +186,7 @@ module _ {H E B : Type 0} (facts : H → Facts E B) (names : E → Option ℕ) (
   pub joins : (id : ℕ) (v : V) (other : ℕ) (w : V) → v.held ≡ None → w.held ≡ None → v.spent ≡ false → Joins R id v other w (joined_view v w) spent_view
   joins id v other w idle rest here s q at apart there = ruled q.three_words (fuses facts names lawful sound (w0 s) (w1 s) (w2 s) s.homes s.views q.holds id other v w at (sym (set_else s.views id other (joined_view v w) apart) ∙ there) apart idle rest here)
 
+  -- the start
   pub opens : (h : H) (n : ℕ) (xs : List (Option H)) (log : List E) (library : Option B) (room : ℕ) → xs ≡ Some h ∷ [] → facts h ≡ record { log = log; library = library; room = room; total = named_count names log } → sound h
       → n ≡ length log → lawful library log → Each (λ e. names e ≡ None) log → R (opening (0 ∷ n ∷ 1 ∷ []) xs (new_view (Some 0) log library room))
   opens h n xs log library room is somewhere is_sound counted is_lawful fresh = subst (λ (l : List (Option H)). R (opening (0 ∷ n ∷ 1 ∷ []) l (new_view (Some 0) log library room))) (sym is) (ruled refl (begins facts names lawful sound h n log library room somewhere is_sound counted is_lawful fresh))

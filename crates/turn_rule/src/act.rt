@@ -22,11 +22,10 @@ pub trait Act<K: Kept> {
         requires lawful { IsLawful K.legal K.agrees (K.library state.old) (K.journal state.old) }
         requires sound { K.sound state.old }
         requires asks { asks self (K.journal state.old) (K.library state.old) pass }
-        ensures entry {
-            (e : Option K.Entry) × (K.journal state.new ≡ K.journal state.old ++ list_of e)
+        ensures entry { (e : Option K.Entry) × (K.journal state.new ≡ K.journal state.old ++ list_of e)
             × IsBy K.names pass e
-            × gives self (K.journal state.old) (K.library state.old) (K.room state.old) pass e result
-        }
+            × gives self (K.journal state.old) (K.library state.old) (K.room state.old) pass e
+            result }
         ensures lawful { IsLawful K.legal K.agrees (K.library state.old) (K.journal state.new) }
         ensures library { K.library state.new ≡ K.library state.old }
         ensures room { K.room state.new ≡ K.room state.old }

@@ -30,7 +30,6 @@ impl<K: Kept, L: Ledger> Model for Pass<K, L> {
     ghost Value = { Known K.Entry K.Library };
 
     ghost use Rattle.turn_rule.specs.Seats.{known};
-
     ghost use Rattle.turn_rule.specs.Steps.{IsAtRest};
 
     ghost view = { λ p. known p.seat.table_id p.seat.me.0 p.number p.share.parts };

@@ -1,9 +1,11 @@
 // What the calls of a turn do to its table, kind of step by kind of step. These functions take the
 // parts of a pass, since a pass keeps its own facts only between calls.
-ghost use Rattle.std.specs.Prelude.{◌≡◌, ◌+◌, ◌<◌, ◌≤◌, ◌^◌, [], length, None, Some, IfOk, OnOk, IfErr, ℕ, false};
+ghost use Rattle.std.specs.Prelude.{◌≡◌, ◌+◌, ◌<◌, ◌≤◌, ◌^◌, ℕ, false, [], length, None, Some};
+ghost use Rattle.std.specs.Prelude.{IfOk, OnOk, IfErr};
 ghost use Rattle.turn_rule.specs.Journal.{IsLawful, entries_of, named_count};
 ghost use Rattle.turn_rule.specs.Known.{MayRun, Ran};
-ghost use Rattle.turn_rule.specs.Seats.{known, grown_view, rested_view, missed_view, drawn_view, numbered_view};
+ghost use Rattle.turn_rule.specs.Seats.{known, grown_view, rested_view, missed_view};
+ghost use Rattle.turn_rule.specs.Seats.{drawn_view, numbered_view};
 ghost use Rattle.turn_rule.specs.Rule.{facts_of};
 ghost use Rattle.turn_rule.specs.Steps.{IsTurnSeat, Learns, IsAtRest, Acted, AddedOne};
 
@@ -51,23 +53,20 @@ fn account<K: Kept, L: Ledger>(
     book: &mut Book<L>,
 )
     requires table { IsTurnSeat seat.old.table_id table.now.table_id }
-    requires acted {
-        Acted K.names (IsLawful K.legal K.agrees) seat.old.me.0 number before book.old.total
-            (K.journal state.now)
-    }
+    requires acted { Acted K.names (IsLawful K.legal K.agrees) seat.old.me.0 number before book.old.total
+        (K.journal state.now) }
     requires parts { 0 < share.old.parts }
     ensures seat { (seat.new.table_id ≡ seat.old.table_id) × (seat.new.id ≡ seat.old.id) }
-    ensures me {
-        seat.new.me
-        ≡ (grown_view seat.old.me.0 (K.journal state.now)
-            (entries_of K.names number (K.journal state.now)), seat.old.me.1)
-    }
+    ensures me { seat.new.me
+        ≡ (
+          grown_view seat.old.me.0 (K.journal state.now)
+              (entries_of K.names number (K.journal state.now)),
+          seat.old.me.1,
+        ) }
     ensures total { book.new.total ≡ named_count K.names (K.journal state.now) }
     ensures parts { share.new.parts ≡ share.old.parts }
-    ensures amount {
-        share.new.amount + length seat.old.me.0.own
-        ≡ share.old.amount + length (entries_of K.names number (K.journal state.now))
-    }
+    ensures amount { share.new.amount + length seat.old.me.0.own
+        ≡ share.old.amount + length (entries_of K.names number (K.journal state.now)) }
 {
     if state.entries() != before {
         count_entry::<K, L, Brand>(table, seat, number, state);
@@ -85,27 +84,19 @@ pub(crate) fn try_act<K: Kept, L: Ledger, C: Act<K>>(
 ) -> Result<C::Answer, (Busy, C)>
     requires table { IsTurnSeat seat.old.table_id table.now.table_id }
     requires rests { IsAtRest seat.old.me number share.old.parts share.old.amount }
-    requires asks {
-        MayRun K.names (IsLawful K.legal K.agrees) (C.asks call)
-            (known seat.old.table_id seat.old.me.0 number share.old.parts)
-    }
+    requires asks { MayRun K.names (IsLawful K.legal K.agrees) (C.asks call)
+        (known seat.old.table_id seat.old.me.0 number share.old.parts) }
     ensures seat { (seat.new.table_id ≡ seat.old.table_id) × (seat.new.id ≡ seat.old.id) }
     ensures rests { IsAtRest seat.new.me number share.new.parts share.new.amount }
     ensures parts { share.new.parts ≡ share.old.parts }
-    ensures ok {
-        IfOk result (λ answer. Ran K.names (IsLawful K.legal K.agrees) (C.gives call)
-            (known seat.old.table_id seat.old.me.0 number share.old.parts)
-            (known seat.new.table_id seat.new.me.0 number share.new.parts) answer)
-    }
-    ensures same {
-        OnOk result (seat.new.me.0
-            ≡ rested_view (grown_view seat.old.me.0 seat.new.me.0.seen seat.new.me.0.own)
-                seat.new.me.0.seen)
-    }
-    ensures busy {
-        IfErr result (λ back. (back.1 ≡ call)
-            × (seat.new.me ≡ (missed_view seat.old.me.0, seat.old.me.1)))
-    }
+    ensures ok { IfOk result (λ answer. Ran K.names (IsLawful K.legal K.agrees) (C.gives call)
+        (known seat.old.table_id seat.old.me.0 number share.old.parts)
+        (known seat.new.table_id seat.new.me.0 number share.new.parts) answer) }
+    ensures same { OnOk result (seat.new.me.0
+        ≡ rested_view (grown_view seat.old.me.0 seat.new.me.0.seen seat.new.me.0.own)
+        seat.new.me.0.seen) }
+    ensures busy { IfErr result (λ back. (back.1 ≡ call)
+        × (seat.new.me ≡ (missed_view seat.old.me.0, seat.old.me.1))) }
 {
     // Kind 1.
     if table.compare_exchange::<TakeTurn>(seat, TURN, 0, 1) != 0 {
@@ -174,10 +165,8 @@ pub(crate) fn take_state<K: Kept, L: Ledger, R: Wait>(
     requires empty { seat.old.me.1 ≡ [] }
     requires number { seat.old.me.0.number ≡ Some number }
     requires here { seat.old.me.0.spent ≡ false }
-    ensures {
-        Learns (λ h. facts_of K.journal K.library K.room h.state h.book.total) K.names
-            (IsLawful K.legal K.agrees) (λ h. K.sound h.state) seat.old.me.0 result
-    }
+    ensures { Learns (λ h. facts_of K.journal K.library K.room h.state h.book.total) K.names
+        (IsLawful K.legal K.agrees) (λ h. K.sound h.state) seat.old.me.0 result }
 {
     for _ in rt.forever() {
         // Kind 1.
