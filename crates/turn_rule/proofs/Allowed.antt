@@ -12,7 +12,7 @@ use Rattle.turn_rule.specs.Journal.{entries_of, named_count}
 use Rattle.turn_rule.specs.Seats.{Each, times, IsAccount, accounts, new_view, spent_view, holder_view, grown_view, missed_view, rested_view, drawn_view, numbered_view, joined_view}
 use Rattle.turn_rule.specs.Rule.{Facts, Holds, Ruled}
 use Rattle.turn_rule.specs.Steps.{Learns, Takes, Adds, Leaves, ReadsLength, ReadsNext, TakesNumber, AddedOne}
-use Rattle.turn_rule.proofs.Lists.{within, Each-map, own_is}
+use Rattle.turn_rule.proofs.Lists.{within, Each-map}
 use Rattle.turn_rule.proofs.Words.{parts_of}
 use Rattle.turn_rule.proofs.Keeps.{by_words, wins, misses, home_of, adds, leaves, rests, draws, numbers, parts_in, fuses, begins, below_next}
 
