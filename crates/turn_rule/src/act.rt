@@ -14,7 +14,8 @@ pub trait Act<K: Kept> {
 
     /// How the answer, and the entry that was added or none, stand to the journal before the act,
     /// the library, the room and the pass number.
-    ghost gives: { Self → List K.Entry → Option K.Library → ℕ → ℕ → Option K.Entry → Self.Answer → Type 0 };
+    ghost gives: { Self → List K.Entry → Option K.Library → ℕ → ℕ → Option K.Entry
+        → Self.Answer → Type 0 };
 
     /// Runs on the state for the pass of this number. It leaves the journal legal and in agreement
     /// with the library, the library and the room as they were, and the state sound.
@@ -22,7 +23,8 @@ pub trait Act<K: Kept> {
         requires lawful { IsLawful K.legal K.agrees (K.library state.old) (K.journal state.old) }
         requires sound { K.sound state.old }
         requires asks { asks self (K.journal state.old) (K.library state.old) pass }
-        ensures entry { (e : Option K.Entry) × (K.journal state.new ≡ K.journal state.old ++ list_of e)
+        ensures entry { (e : Option K.Entry)
+            × (K.journal state.new ≡ K.journal state.old ++ list_of e)
             × IsBy K.names pass e
             × gives self (K.journal state.old) (K.library state.old) (K.room state.old) pass e
             result }

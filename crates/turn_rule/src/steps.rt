@@ -53,8 +53,8 @@ fn account<K: Kept, L: Ledger>(
     book: &mut Book<L>,
 )
     requires table { IsTurnSeat seat.old.table_id table.now.table_id }
-    requires acted { Acted K.names (IsLawful K.legal K.agrees) seat.old.me.0 number before book.old.total
-        (K.journal state.now) }
+    requires acted { Acted K.names (IsLawful K.legal K.agrees) seat.old.me.0 number before
+        book.old.total (K.journal state.now) }
     requires parts { 0 < share.old.parts }
     ensures seat { (seat.new.table_id ≡ seat.old.table_id) × (seat.new.id ≡ seat.old.id) }
     ensures me { seat.new.me
