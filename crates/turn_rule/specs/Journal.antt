@@ -34,6 +34,7 @@ module _ {E : Type 0} (names : E → Option ℕ) where
   NamesNoPass log = (e : E) → Contains log e → names e ≡ None
 
 -- the journal is legal, and agrees with the library where that is told
-pub record IsLawful {E B : Type 0} (legal : List E → Type 0) (agrees : B → List E → Type 0) (library : Option B) (log : List E) : Type 0 where
+pub record IsLawful {E B : Type 0} (legal : List E → Type 0) (agrees : B → List E → Type 0)
+    (library : Option B) (log : List E) : Type 0 where
   pub is_legal : legal log
   pub is_agreed : (b : B) → library ≡ Some b → agrees b log

@@ -42,15 +42,48 @@ module _ {E B : Type 0} where
 
   -- a pass, as contracts see it, by its table, its view and its parts of the ledger
   abbrev pub known : TableId → View E B → ℕ → ℕ → Known E B
-  known table v number parts = record { table = table; number = number; drawn = v.drawn; seen = v.seen; own = v.own; ended = v.ended; misses = v.misses; parts = parts; library = v.library; room = v.room }
+  known table v number parts = record {
+    table = table;
+    number = number;
+    drawn = v.drawn;
+    seen = v.seen;
+    own = v.own;
+    ended = v.ended;
+    misses = v.misses;
+    parts = parts;
+    library = v.library;
+    room = v.room;
+  }
 
   -- a seat that has seen this journal and made nothing
   abbrev pub new_view : Option ℕ → List E → Option B → ℕ → View E B
-  new_view number log library room = record { number = number; drawn = 0; seen = log; own = []; ended = []; held = None; misses = 0; spent = false; library = library; room = room }
+  new_view number log library room = record {
+    number = number;
+    drawn = 0;
+    seen = log;
+    own = [];
+    ended = [];
+    held = None;
+    misses = 0;
+    spent = false;
+    library = library;
+    room = room;
+  }
 
   -- a seat that was joined into another
   abbrev pub spent_view : View E B
-  spent_view = record { number = None; drawn = 0; seen = []; own = []; ended = []; held = None; misses = 0; spent = true; library = None; room = 0 }
+  spent_view = record {
+    number = None;
+    drawn = 0;
+    seen = [];
+    own = [];
+    ended = [];
+    held = None;
+    misses = 0;
+    spent = true;
+    library = None;
+    room = 0;
+  }
 
   -- the seat took the turn, at this journal
   abbrev pub holder_view : View E B → List E → View E B

@@ -1,5 +1,6 @@
 -- What a seat is told by each kind of step, and what the functions that take the steps know of their seat.
--- A step is told as a fact of the step st, the seat before it m, the word that it found, and the seat after it m'. A seat is its view with the slots that it holds.
+-- A step is told as a fact of the step st, the seat before it m, the word that it found, and the seat after it m'.
+-- A seat is its view with the slots that it holds.
 use Rattle.std.specs.Prelude.{◌≡◌, ◌≢◌, ℕ, ◌^◌, ◌<◌, ◌≤◌, false, List, [], ◌∷◌, ◌++◌, length, Option, Some, None}
 use mathlib.Core.List.{IsPrefix}
 use Rattle.atomic_table.specs.Table.{Me, Step}
@@ -15,7 +16,8 @@ pub record IsTurnSeat (seat table : TableId) : Type 0 where
   pub three_words : table.words ≡ 3
   pub one_slot : table.slots ≡ 1
 
-module _ {H E B : Type 0} (facts : H → Facts E B) (names : E → Option ℕ) (lawful : Option B → List E → Type 0) (sound : H → Type 0) where
+module _ {H E B : Type 0} (facts : H → Facts E B) (names : E → Option ℕ) (lawful : Option B → List E → Type 0)
+    (sound : H → Type 0) where
   -- what the seat with the view v, which won the turn, learns of the state h that it takes
   pub record Learns (v : View E B) (h : H) : Type 0 where
     pub begins : IsPrefix v.seen (facts h).log
@@ -27,7 +29,8 @@ module _ {H E B : Type 0} (facts : H → Facts E B) (names : E → Option ℕ) (
     pub told : Each (λ a. a.1 ≡ entries_of names a.0 (facts h).log) (accounts v)
     pub once : (n : ℕ) → times n (accounts v) ≤ 1
 
-  -- Kind 1: word 0 from 0 to 1. The turn was free, and the seat holds it and slot 0. Or it was taken, and the seat counts a miss.
+  -- Kind 1: word 0 from 0 to 1. The turn was free, and the seat holds it and slot 0. Or it was taken, and the seat
+  -- counts a miss.
   abbrev pub Takes : Step (Option H) → Me (Option H) (View E B) → ℕ → Me (Option H) (View E B) → Type 0
   Takes st m found m' =
       (found ≡ 0 → (h : H) × (m' ≡ (holder_view m.0 (facts h).log, (0, Some h) ∷ m.1)) × Learns m.0 h)
@@ -50,13 +53,15 @@ module _ {H E B : Type 0} where
   -- Kind 6: word 2 is read. It is at most 2 ^ 32, no lower than what the seat drew before, and above the seat's number.
   abbrev pub ReadsNext : Step (Option H) → Me (Option H) (View E B) → ℕ → Me (Option H) (View E B) → Type 0
   ReadsNext st m found m' =
-      (m' ≡ (drawn_view m.0 found, m.1)) × (found ≤ 2 ^ 32) × (m.0.drawn ≤ found) × ((n : ℕ) → m.0.number ≡ Some n → n < found)
+      (m' ≡ (drawn_view m.0 found, m.1)) × (found ≤ 2 ^ 32) × (m.0.drawn ≤ found)
+      × ((n : ℕ) → m.0.number ≡ Some n → n < found)
 
   -- Kind 8: word 2 from n to n + 1. The number n is the seat's, or another seat came first and nothing changed.
   abbrev pub TakesNumber : Step (Option H) → Me (Option H) (View E B) → ℕ → Me (Option H) (View E B) → Type 0
   TakesNumber st m found m' = (found ≡ st.first → m' ≡ (numbered_view m.0 st.first, m.1)) × (found ≢ st.first → m' ≡ m)
 
-  -- What a pass keeps of its seat between calls: it holds nothing, has the pass's number, and its share's amount is the number of entries that it answers for.
+  -- What a pass keeps of its seat between calls: it holds nothing, has the pass's number, and its share's amount is
+  -- the number of entries that it answers for.
   pub record IsAtRest (me : Me (Option H) (View E B)) (number parts amount : ℕ) : Type 0 where
     pub empty : me.1 ≡ []
     pub idle : me.0.held ≡ None
@@ -65,8 +70,10 @@ module _ {H E B : Type 0} where
     pub has_parts : 0 < parts
     pub has_amount : amount ≡ entry_count (accounts me.0)
 
--- what is known of the holder's view and of the book once an act ran: the state's journal was `before` long and is now `journal`
-pub record Acted {E B : Type 0} (names : E → Option ℕ) (lawful : Option B → List E → Type 0) (v : View E B) (number before total : ℕ) (journal : List E) : Type 0 where
+-- what is known of the holder's view and of the book once an act ran: the state's journal was `before` long and is now
+-- `journal`
+pub record Acted {E B : Type 0} (names : E → Option ℕ) (lawful : Option B → List E → Type 0) (v : View E B)
+    (number before total : ℕ) (journal : List E) : Type 0 where
   pub log : List E
   pub entry : Option E
   pub held : v.held ≡ Some log
@@ -80,7 +87,8 @@ pub record Acted {E B : Type 0} (names : E → Option ℕ) (lawful : Option B �
   pub counted : total ≡ named_count names log
 
 -- the same of an act that added an entry: the journal is now `log_after`, and the pass's own entries are `own_after`
-pub record AddedOne {E B : Type 0} (names : E → Option ℕ) (lawful : Option B → List E → Type 0) (v : View E B) (number : ℕ) (log_after own_after : List E) : Type 0 where
+pub record AddedOne {E B : Type 0} (names : E → Option ℕ) (lawful : Option B → List E → Type 0) (v : View E B)
+    (number : ℕ) (log_after own_after : List E) : Type 0 where
   pub log : List E
   pub entry : E
   pub held : v.held ≡ Some log
