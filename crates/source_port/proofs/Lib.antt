@@ -1,1 +1,2 @@
 mod LastFile
+pub mod Fronts

@@ -99,12 +99,7 @@ fn is_segment(segment: &str) -> bool {
 }
 
 /// The bytes of a file, at most `limit` of them.
-fn read_file<R: Files>(
-    rt: &R,
-    alloc: Global,
-    path: &str,
-    limit: u32,
-) -> Result<Vec<u8>, FetchError>
+fn read_file<R: Files>(rt: &R, alloc: Global, path: &str, limit: u32) -> Result<Vec<u8>, FetchError>
     ensures { IfOk result (λ bytes. length bytes.items ≤ limit) }
 {
     let mut file = match fs::open(rt, path) {

@@ -30,3 +30,5 @@ pub use steps::Steps;
 pub use text::Text;
 pub use want::{Order, TileFacts, Want, WantList};
 
+#[cfg(test)]
+mod tests;
