@@ -1,0 +1,13 @@
+pub mod Ascii
+pub mod Characters
+pub mod JsonValue
+pub mod View
+pub mod Grammar
+pub mod WellFormed
+pub mod Scan
+pub mod Numbers
+pub mod Strings
+pub mod Reading
+pub mod Seen
+pub mod Code
+pub mod Falls
