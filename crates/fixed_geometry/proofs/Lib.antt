@@ -1,0 +1,7 @@
+pub mod Decimals
+pub mod RootFacts
+pub mod Quotients
+pub mod Sizes
+pub mod Spellings
+pub mod SpellingLaw
+pub mod IdentityLaw

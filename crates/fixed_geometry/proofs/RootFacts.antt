@@ -1,0 +1,38 @@
+-- What the roots are.
+use Rattle.std.proofs.Common.{◌≡◌, ◌≢◌, ℕ, zero, suc, ◌+◌, ◌*◌, ◌^◌, ◌<◌, ◌≤◌, Bool, true, false, cond, leb, ⊎_elim, refl, arith}
+use Rattle.std.proofs.Math.Nat.{mul-le-mul}
+use Rattle.std.proofs.lemmas.Bool.{cases_lt}
+use Rattle.std.proofs.lemmas.Bool.Decides.{nat_tests}
+use Rattle.std.proofs.lemmas.Nat.{mul-lt}
+use Rattle.fixed_geometry.specs.Root.{floor_root}
+
+pub record IsFloorRoot (n r : ℕ) : Type 0 where
+  pub square : r * r ≤ n
+  pub next : n < (r + 1) * (r + 1)
+
+root_step : (b : Bool) (r n : ℕ) → leb ((r + 1) * (r + 1)) (suc n) ≡ b → IsFloorRoot n r → IsFloorRoot (suc n) (cond b (r + 1) r)
+root_step true r n e h = let is : (r + 1) * (r + 1) ≤ suc n = grind (arith, nat_tests) in record { square = is; next = omega (arith, h.next) }
+root_step false r n e h = let is : suc n < (r + 1) * (r + 1) = grind (arith, nat_tests) in record { square = omega (arith, h.square); next = is }
+
+pub floor_root-is : (n : ℕ) → IsFloorRoot n (floor_root n)
+unfolding floor_root
+floor_root-is zero = record { square = omega arith; next = omega arith }
+floor_root-is (suc n) = root_step (leb ((floor_root n + 1) * (floor_root n + 1)) (suc n)) (floor_root n) n refl (floor_root-is n)
+
+pub root_unique : (n r s : ℕ) → r * r ≤ n → n < (r + 1) * (r + 1) → s * s ≤ n → n < (s + 1) * (s + 1) → r ≡ s
+root_unique n r s a b c d = ⊎_elim
+    (λ (h : r < s). let m : (r + 1) * (r + 1) ≤ s * s = mul-le-mul (omega arith) (omega arith) in absurd (omega arith))
+    (λ (h : s ≤ r). ⊎_elim
+    (λ (g : s < r). let m : (s + 1) * (s + 1) ≤ r * r = mul-le-mul (omega arith) (omega arith) in absurd (omega arith))
+    (λ (g : r ≤ s). omega arith)
+    (cases_lt s r))
+    (cases_lt r s)
+
+pub is_floor_root : (n r : ℕ) → r * r ≤ n → n < (r + 1) * (r + 1) → r ≡ floor_root n
+is_floor_root n r a b = let f = floor_root-is n in root_unique n r (floor_root n) a b f.square f.next
+
+pub below_root : (n m f : ℕ) → n ≤ m * m → f * f ≤ n → f ≤ m
+below_root n m f h g = ⊎_elim
+    (λ (k : m < f). let e : (m + 1) * (m + 1) ≤ f * f = mul-le-mul (omega arith) (omega arith) in absurd (omega arith))
+    (λ (k : f ≤ m). k)
+    (cases_lt m f)

@@ -1,0 +1,5 @@
+use Rattle.fixed_geometry.proofs.IdentityLaw.{apply-identity, apply_vector-identity, max_scale-identity}
+use Rattle.fixed_geometry.proofs.laws.identity_moves_nothing.Goals as goal
+
+pub returns : goal.returns
+returns c = record { points = apply-identity; vectors = apply_vector-identity; scale = max_scale-identity }

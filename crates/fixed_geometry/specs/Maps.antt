@@ -1,0 +1,85 @@
+-- Affine maps: three rows of three linear entries in 10^-9 parts, and a shift in millimetres.
+use Rattle.std.specs.Prelude.{ℕ, ◌*◌, ◌^◌, max, ℤ, pos, ◌+ℤ◌}
+use Rattle.fixed_geometry.specs.Quotient.{half, clamp, held_within}
+use Rattle.fixed_geometry.specs.Root.{ceiling_root}
+use Rattle.fixed_geometry.specs.Points.{IsWithin, coordinate_limit, dot, norm}
+use Rattle.fixed_geometry.specs.declared.point.Point.{Point}
+
+-- the linear entry that stands for 1
+abbrev pub parts : ℕ
+parts = 10 ^ 9
+
+-- the greatest size of a linear entry, which stands for 2^20
+abbrev pub linear_limit : ℕ
+linear_limit = 2 ^ 20 * parts
+
+-- no column of three such entries is longer
+abbrev pub scale_limit : ℕ
+scale_limit = 2 ^ 21 * parts
+
+pub record Map : Type 0 where
+  pub x : Point
+  pub y : Point
+  pub z : Point
+  pub shift : Point
+
+-- rows and shift are within the limits
+pub record IsBounded (m : Map) : Type 0 where
+  pub x : IsWithin linear_limit m.x
+  pub y : IsWithin linear_limit m.y
+  pub z : IsWithin linear_limit m.z
+  pub shift : IsWithin coordinate_limit m.shift
+
+abbrev pub column_x : Map → Point
+column_x m = record { x = m.x.x; y = m.y.x; z = m.z.x }
+
+abbrev pub column_y : Map → Point
+column_y m = record { x = m.x.y; y = m.y.y; z = m.z.y }
+
+abbrev pub column_z : Map → Point
+column_z m = record { x = m.x.z; y = m.y.z; z = m.z.z }
+
+-- the map that leaves each point where it is
+abbrev pub identity : Map
+identity = record {
+  x = record { x = pos parts; y = pos 0; z = pos 0 };
+  y = record { x = pos 0; y = pos parts; z = pos 0 };
+  z = record { x = pos 0; y = pos 0; z = pos parts };
+  shift = record { x = pos 0; y = pos 0; z = pos 0 };
+}
+
+-- one coordinate of a point under a map: a row times the point, shifted
+abbrev pub point_part : Point → ℤ → Point → ℤ
+point_part row shift p = clamp (half (dot row p) parts +ℤ shift)
+
+-- one component of a vector under a map, which no shift changes
+abbrev pub vector_part : Point → Point → ℤ
+vector_part row v = clamp (half (dot row v) parts)
+
+-- where a map moves a point
+abbrev pub apply : Map → Point → Point
+apply m p = record { x = point_part m.x m.shift.x p; y = point_part m.y m.shift.y p; z = point_part m.z m.shift.z p }
+
+-- what a map makes of a vector
+abbrev pub apply_vector : Map → Point → Point
+apply_vector m v = record { x = vector_part m.x v; y = vector_part m.y v; z = vector_part m.z v }
+
+-- one linear entry of a product: a row of the one map times a column of the other
+abbrev pub entry : Point → Point → ℤ
+entry row column = held_within linear_limit (half (dot row column) parts)
+
+abbrev pub row_after : Point → Map → Point
+row_after row own = record { x = entry row (column_x own); y = entry row (column_y own); z = entry row (column_z own) }
+
+-- the map that applies `own` first, and then `parent`
+abbrev pub after : Map → Map → Map
+after parent own = record {
+  x = row_after parent.x own;
+  y = row_after parent.y own;
+  z = row_after parent.z own;
+  shift = apply parent own.shift;
+}
+
+-- the length of the longest column, rounded up: the greatest factor by which an axis is stretched
+abbrev pub max_scale : Map → ℕ
+max_scale m = ceiling_root (max (max (norm (column_x m)) (norm (column_y m))) (norm (column_z m)))

@@ -1,0 +1,60 @@
+//! Decimals as whole numbers of a fixed number of places.
+
+ghost use Rattle.std.specs.Prelude.{◌≡◌, ◌≤◌, ◌<◌, ◌↔◌, ◌≤ℤ◌, pos, unsigned_abs, IfOk, IsOk, IsErr};
+ghost use Rattle.fixed_geometry.specs.Decimal.{fixed, fixed_size, with_sign, places_limit, max_limit};
+
+mod common;
+mod general;
+mod held;
+
+use common::read_common;
+use general::read_general;
+pub use held::scaled_held;
+
+/// The answer of [`scaled`] where the number passes the limit.
+#[derive(Clone, Copy, Debug, PartialEq, Eq)]
+pub struct OutOfRange;
+
+/// A decimal in fixed places: its sign, and its size, which counts only up to the ceiling.
+#[derive(Clone, Copy)]
+pub(crate) struct Reading {
+    negative: bool,
+    size: u64,
+}
+
+/// Sizes from here on are all alike: this is more than any limit.
+pub(crate) const SIZE_CEILING: u64 = (1 << 60) + 1;
+
+/// The decimal that `text` spells (RFC 8259, section 6), times `10^places`, to the nearest whole number,
+/// a half away from zero. `OutOfRange` where that is greater than `max` in size.
+///
+/// With 3 places a text of metres gives millimetres, with 9 a text of parts gives 10^-9 parts.
+pub fn scaled(text: &str, places: u8, max: i128) -> Result<i128, OutOfRange>
+    requires places { places ≤ places_limit }
+    requires max_from { pos 0 ≤ℤ max }
+    requires max_to { max ≤ℤ pos max_limit }
+    ensures value { IfOk result (λ n. n ≡ fixed text.now places) }
+    ensures in_range { IsOk result ↔ (fixed_size text.now places ≤ unsigned_abs max) }
+    ensures out_of_range { IsErr result ↔ (unsigned_abs max < fixed_size text.now places) }
+{
+    let bytes = text.as_bytes();
+    let read = match read_common(bytes, places) {
+        Some(read) => read,
+        None => read_general(bytes, places),
+    };
+    if read.size > max as u64 {
+        return Err(OutOfRange);
+    }
+    Ok(i128::from(signed(read.negative, read.size)))
+}
+
+fn signed(negative: bool, size: u64) -> i64
+    requires { size ≤ max_limit }
+    ensures { result ≡ with_sign negative size }
+{
+    if negative {
+        -(size as i64)
+    } else {
+        size as i64
+    }
+}

@@ -1,0 +1,57 @@
+//! Rounded quotients of whole numbers, and the coordinate nearest to a number.
+
+ghost use Rattle.std.specs.Prelude.{◌≡◌, ◌≤◌, ◌<◌, ◌+◌, ◌*◌, unsigned_abs};
+ghost use Rattle.fixed_geometry.specs.Points.{coordinate_limit};
+ghost use Rattle.fixed_geometry.specs.Quotient as quotients;
+ghost use Rattle.fixed_geometry.specs.Quotient.{operand_limit};
+
+/// The greatest size of a coordinate, in millimetres.
+pub const COORDINATE_LIMIT: i64 = 1 << 36;
+
+/// `n / d` to the nearest whole number, a half away from zero.
+pub fn half(n: i128, d: u128) -> i128
+    requires n { unsigned_abs n ≤ operand_limit }
+    requires d_from { 0 < d }
+    requires d_to { d ≤ operand_limit }
+    ensures value { result ≡ quotients.half n d }
+    ensures bound { unsigned_abs result ≤ unsigned_abs n }
+
+    // No whole number is nearer, and of two that are as near this is the one farther from zero.
+    ensures at_most { 2 * (unsigned_abs result * d) ≤ 2 * unsigned_abs n + d }
+    ensures at_least { 2 * unsigned_abs n + d < 2 * ((unsigned_abs result + 1) * d) }
+{
+    let size = (2 * n.unsigned_abs() + d) / (2 * d);
+    with_sign_of(n, size)
+}
+
+/// `n / d` to the next whole number away from zero.
+pub fn up(n: i128, d: u128) -> i128
+    requires n { unsigned_abs n ≤ operand_limit }
+    requires d_from { 0 < d }
+    requires d_to { d ≤ operand_limit }
+    ensures value { result ≡ quotients.up n d }
+    ensures bound { unsigned_abs result ≤ unsigned_abs n }
+
+    // The quotient's size is not above this, and less than one below it.
+    ensures at_least { unsigned_abs n ≤ unsigned_abs result * d }
+    ensures at_most { unsigned_abs result * d < unsigned_abs n + d }
+{
+    let size = (n.unsigned_abs() + (d - 1)) / d;
+    with_sign_of(n, size)
+}
+
+fn with_sign_of(n: i128, size: u128) -> i128
+    requires { size ≤ operand_limit }
+    ensures value { result ≡ quotients.signed_as n size }
+    ensures bound { unsigned_abs result ≡ size }
+{
+    if n < 0 { -(size as i128) } else { size as i128 }
+}
+
+/// The coordinate nearest to `n`: at most 2^36 millimetres in size.
+pub fn clamp(n: i128) -> i64
+    ensures value { result ≡ quotients.clamp n }
+    ensures bound { unsigned_abs result ≤ coordinate_limit }
+{
+    n.clamp(-i128::from(COORDINATE_LIMIT), i128::from(COORDINATE_LIMIT)) as i64
+}
