@@ -1,0 +1,17 @@
+//! Bounding volumes in whole millimetres: oriented boxes and spheres. How far a point is outside
+//! one, on which side of a plane it lies, how a map moves it, and the cells that it is divided into.
+#![tactic(auto)]
+
+mod cells;
+mod distance;
+pub mod laws;
+mod moves;
+mod plane;
+mod planes;
+#[cfg(test)]
+mod tests;
+mod volume;
+
+pub use moves::moved_error;
+pub use plane::Plane;
+pub use volume::Volume;
