@@ -1,0 +1,13 @@
+//! The error test: whether a tile of a volume and an error is too coarse for a view, and whether
+//! the view's planes leave it out of sight.
+#![tactic(auto)]
+
+mod culling;
+mod screen_error;
+#[cfg(test)]
+mod tests;
+mod view;
+
+pub use culling::culled;
+pub use screen_error::wants;
+pub use view::{Field, View, ViewError};
