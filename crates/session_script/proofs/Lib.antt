@@ -1,0 +1,5 @@
+pub mod Fields
+pub mod Numbers
+pub mod Parts
+pub mod PlanesRead
+pub mod ViewFields

@@ -1,0 +1,15 @@
+mod Boxes
+mod Causes
+mod Children
+mod DocumentTrees
+mod Entries
+mod Levels
+mod Marks
+mod Names
+mod NodeTrees
+mod Prefixes
+mod Reading
+mod Sixteens
+mod ThreeWords
+mod Unmoved
+mod Visits

@@ -1,0 +1,12 @@
+use Rattle.std.proofs.Common.{◌≤◌, take}
+use Rattle.std.specs.List.{flat_map}
+use Rattle.std.specs.Io.KnownBytes.{Appends}
+use Rattle.stream_cli.specs.Report.{shown_line}
+use Rattle.stream_cli.proofs.report.put_shown.Given as goal
+
+-- the lines so far were put, and the count of faults didn't fall
+abbrev pub invariant-loop-shown : goal.invariant-loop-shown
+invariant-loop-shown g l = record {
+  put : Appends (g.W.Sink.written l.initial.out) (g.W.Sink.written l.out) (flat_map shown_line (take l.shown-index l.lines));
+  counted : g.W.Sink.faults l.initial.out ≤ g.W.Sink.faults l.out;
+}

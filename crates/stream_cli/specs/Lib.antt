@@ -1,0 +1,9 @@
+pub mod Causes
+pub mod Commands
+pub mod Documents
+pub mod Form
+pub mod Listed
+pub mod Nodes
+pub mod Report
+pub mod Runs
+pub mod Waiting

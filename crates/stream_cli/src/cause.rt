@@ -1,0 +1,109 @@
+//! What a run ends with.
+
+ghost use Rattle.std.specs.Prelude.{◌≡◌, IfOk};
+ghost use Rattle.stream_cli.specs.Causes.{absence_name, fault_line, status_of};
+
+use crate::document::DocumentError;
+use source_port::Text;
+use std::alloc::{AllocError, AllocFailed, Global};
+
+/// What a run ends with.
+#[derive(Clone, Copy, Debug, PartialEq, Eq)]
+pub enum Cause {
+    /// All was read, and all was printed.
+    Done,
+    /// The words are no command.
+    Words,
+    /// The root document isn't read.
+    Document { cause: DocumentError },
+    /// A fetch failed. This is how many fetches of its source failed so far.
+    Source { count: u64 },
+    /// A put failed. This is how many puts of its sink failed so far.
+    Out { count: u64 },
+    /// Memory ran out.
+    Memory,
+    /// The source gave no root document.
+    RootAbsent { why: NotHere },
+}
+
+/// Why a source gave no file.
+#[derive(Clone, Copy, Debug, PartialEq, Eq)]
+pub enum NotHere {
+    /// There is nothing at its address.
+    Missing,
+    /// It is longer than the limit.
+    TooLong,
+}
+
+impl NotHere {
+    /// The name that is printed.
+    pub fn name(&self) -> &'static str
+        ensures { result.now ≡ absence_name self.now }
+    {
+        match self {
+            NotHere::Missing => "Missing",
+            NotHere::TooLong => "TooLong",
+        }
+    }
+}
+
+impl Cause {
+    /// The exit status: 0 done, 1 words, 2 refused, 3 source, 4 sink, 7 memory, 8 absent.
+    pub fn status(&self) -> u8
+        ensures { result ≡ status_of self.now }
+    {
+        match self {
+            Cause::Done => 0,
+            Cause::Words => 1,
+            Cause::Document { .. } => 2,
+            Cause::Source { .. } => 3,
+            Cause::Out { .. } => 4,
+            Cause::Memory => 7,
+            Cause::RootAbsent { .. } => 8,
+        }
+    }
+
+    /// The line for standard error, with its line feed. A run that is done has none.
+    pub fn line(&self, alloc: Global) -> Result<Text, AllocError>
+        ensures { IfOk result (λ line. line ≡ fault_line self.now) }
+    {
+        let line = match self {
+            Cause::Done => String::new(alloc),
+            Cause::Words => String::from_str(alloc, "fault 1 words\n")?,
+            Cause::Document { cause } => {
+                let name = cause.name();
+                format!(in alloc; "fault 2 document {name} - -\n")?
+            }
+            Cause::Source { count } => format!(in alloc; "fault 3 source {count}\n")?,
+            Cause::Out { count } => format!(in alloc; "fault 4 out {count}\n")?,
+            Cause::Memory => String::from_str(alloc, "fault 7 memory\n")?,
+            Cause::RootAbsent { why } => {
+                let name = why.name();
+                format!(in alloc; "fault 8 root {name}\n")?
+            }
+        };
+        Text::new(alloc, line.as_str())
+    }
+}
+
+impl From<AllocError> for Cause {
+    ghost use Rattle.std.specs.Prelude.{◌≡◌};
+    ghost use Rattle.stream_cli.specs.declared.cause.Cause.TheVariants.{Memory};
+
+    ghost from_gives = { λ _ cause. cause ≡ Memory };
+
+    fn from(_: AllocError) -> Cause {
+        Cause::Memory
+    }
+}
+
+impl<T: Drop> From<AllocFailed<T>> for Cause {
+    ghost use Rattle.std.specs.Prelude.{◌≡◌};
+    ghost use Rattle.stream_cli.specs.declared.cause.Cause.TheVariants.{Memory};
+
+    ghost from_gives = { λ _ cause. cause ≡ Memory };
+
+    fn from(_: AllocFailed<T>) -> Cause {
+        Cause::Memory
+    }
+}
