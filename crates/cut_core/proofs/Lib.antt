@@ -1,0 +1,13 @@
+pub mod Lists
+pub mod Bools
+pub mod Owns
+pub mod Trees
+pub mod Fans
+pub mod Standings
+pub mod CutSteps
+pub mod Notes
+pub mod Walks
+pub mod Readiness
+pub mod Places
+pub mod Covering
+pub mod Settling

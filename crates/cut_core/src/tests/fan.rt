@@ -1,0 +1,105 @@
+//! A tree of two levels.
+
+ghost use Rattle.std.specs.Prelude.{◌≡◌, ◌-◌, ◌==◌, ◌<◌, ◌^◌, ◌∷◌, []};
+ghost use Rattle.std.specs.Prelude.{Some, IsTrue, map, nat_le, slice_get, if◌then◌else◌, vec_len};
+ghost use Rattle.std.specs.Option.{option_map, unwrap_or};
+ghost use Rattle.cut_core.specs.Standing.{is_listed};
+ghost use Rattle.cut_core.specs.Tree.{no_trees, tile, trees_of};
+
+use crate::{Node, NodeFacts, TileTree};
+use source_port::{Key, Text};
+use std::alloc::{AllocError, Global};
+
+/// A tile with one content.
+#[derive(Drop)]
+pub struct FanTile {
+    pub name: Text,
+    pub facts: NodeFacts,
+    pub address: Text,
+}
+
+/// A root, number 0, and its children, from 1 on.
+#[derive(Drop)]
+pub struct Fan {
+    root: FanTile,
+    children: Vec<FanTile>,
+    opened: Vec<Node>,
+    ghost few: { vec_len children < 2 ^ 32 },
+}
+
+impl Fan {
+    /// The tree of these tiles, or None where they are too many.
+    pub fn new(alloc: Global, root: FanTile, children: Vec<FanTile>) -> Option<Fan> {
+        if children.len() > 1_000_000 {
+            return None;
+        }
+        Some(Fan {
+            root,
+            children,
+            opened: Vec::new(alloc),
+        })
+    }
+}
+
+impl TileTree for Fan {
+    ghost standing = { λ t.
+        let root = tile t.root.name t.root.facts (t.root.address ∷ [])
+        (trees_of (map (λ c. tile c.name c.facts (c.address ∷ []) no_trees) t.children.items)) in
+        record {
+          tree = Some root;
+          node_tree = λ n. if n.number == 0 then root
+              else unwrap_or (option_map (λ c. tile c.name c.facts (c.address ∷ []) no_trees)
+              (slice_get t.children.items (n.number - 1))) root;
+          is_valid = λ n. nat_le n.number (vec_len t.children);
+          at_hand = λ n. nat_le n.number (vec_len t.children);
+          is_opened = λ n. is_listed t.opened.items n;
+        } };
+
+    fn top(&mut self, _alloc: Global) -> Result<Option<Node>, AllocError> {
+        self.opened.clear();
+        Ok(Some(Node { number: 0 }))
+    }
+
+    fn facts(&self, node: Node) -> NodeFacts {
+        if node.number == 0 {
+            return self.root.facts;
+        }
+        self.children[(node.number - 1) as usize].facts
+    }
+
+    fn open_children(&mut self, _alloc: Global, node: Node) -> Result<u32, AllocError> {
+        self.opened.push(node)?;
+        if node.number == 0 {
+            return Ok(self.children.len() as u32);
+        }
+        Ok(0)
+    }
+
+    fn child(&self, _node: Node, i: u32) -> Node {
+        Node {
+            number: u64::from(i) + 1,
+        }
+    }
+
+    fn content_count(&self, _node: Node) -> u32 {
+        1
+    }
+
+    fn content(&self, node: Node, _i: u32) -> &Text {
+        if node.number == 0 {
+            return &self.root.address;
+        }
+        &self.children[(node.number - 1) as usize].address
+    }
+
+    fn pending(&self, _node: Node) -> Option<&Key> {
+        None
+    }
+
+    fn name(&self, alloc: Global, node: Node) -> Result<Text, AllocError> {
+        if node.number == 0 {
+            return self.root.name.copy(alloc);
+        }
+        self.children[(node.number - 1) as usize].name.copy(alloc)
+    }
+}
