@@ -1,2 +1,3 @@
+mod AddressPaths
 mod LastFile
 pub mod Fronts

@@ -1,5 +1,6 @@
 pub mod Faults
 pub mod Library
 pub mod Memory
+pub mod Paths
 pub mod Written
 pub mod Texts

@@ -1,4 +1,9 @@
-ghost use Rattle.std.specs.Prelude.{◌≤◌, IfOk, IfSome, length};
+ghost use Rattle.std.specs.Prelude.{◌≡◌, ◌≢◌, ◌≤◌, ◌<◌, ◌==◌, None, OnOk, OnErr, IfOk, length, option_map};
+ghost use Rattle.std.specs.List.{before_first, list_all};
+ghost use Rattle.source_port.specs.Faults.{HasRisen};
+ghost use Rattle.source_port.specs.Library.{HasBytes, Lacks, PassesLimit};
+ghost use Rattle.source_port.specs.Memory.{next_count};
+ghost use Rattle.source_port.specs.Paths.{is_unreserved, is_name, is_path, path_at};
 
 use crate::source::{FetchError, LibraryName, Source};
 use std::alloc::{AllocError, Global};
@@ -53,7 +58,20 @@ impl<R: Files + Clone + Drop> Source for DirSource<R> {
         address: &str,
         limit: u32,
         into: &mut Vec<u8>,
-    ) -> Result<(), FetchError> {
+    ) -> Result<(), FetchError>
+        ensures counted { result ≡ Err FetchError.Failed → self.new ≡ next_count self.old }
+        ensures uncounted { result ≢ Err FetchError.Failed → self.new ≡ self.old }
+        ensures outside { path_at address.now ≡ None → result ≡ Err FetchError.Missing }
+
+        // What every source ensures.
+        ensures bytes { OnOk result (HasBytes None address.now into.new.items) }
+        ensures within { OnOk result (length into.new.items ≤ limit) }
+        ensures refused { OnErr result (into.new.items ≡ into.old.items) }
+        ensures missing { result ≡ Err FetchError.Missing → Lacks None address.now }
+        ensures too_long { result ≡ Err FetchError.TooLong → PassesLimit None address.now limit }
+        ensures failed { result ≡ Err FetchError.Failed → HasRisen self.old self.new }
+        ensures never_falls { self.old ≤ self.new }
+    {
         let Some(path) = path_of(address) else {
             return Err(FetchError::Missing);
         };
@@ -80,22 +98,44 @@ impl<R: Files + Clone + Drop> Source for DirSource<R> {
 }
 
 /// The path that an address names below the current folder.
-fn path_of(address: &str) -> Option<&str> {
-    let path = address.strip_prefix("http://tiles/")?;
-    let path = path.split_once('#').map_or(path, |parts| parts.0);
-    let path = path.split_once('?').map_or(path, |parts| parts.0);
-    if path.split('/').all(is_segment) {
-        Some(path)
-    } else {
-        None
-    }
+fn path_of(address: &str) -> Option<&str>
+    ensures { option_map (λ path. path.now) result ≡ path_at address.now }
+{
+    let rest = address.strip_prefix("http://tiles/")?;
+    let path = before(before(rest, '#'), '?');
+    if is_path(path) { Some(path) } else { None }
 }
 
-fn is_segment(segment: &str) -> bool {
-    !segment.is_empty()
-        && segment != "."
-        && segment != ".."
-        && segment.bytes().all(|byte| byte.is_ascii_alphanumeric() || b"-._~".contains(&byte))
+fn is_path(path: &str) -> bool
+    ensures { result ≡ is_path path.now }
+{
+    path.split('/').all(is_name)
+}
+
+/// What stands before the first such character, or all.
+fn before(text: &str, character: char) -> &str
+    requires { character < 128 }
+    ensures { result.now ≡ before_first (λ b. b == character) text.now }
+{
+    text.split_once(character).map_or(text, |parts| parts.0)
+}
+
+fn is_name(segment: &str) -> bool
+    ensures { result ≡ is_name segment.now }
+{
+    !segment.is_empty() && segment != "." && segment != ".." && are_unreserved(segment.as_bytes())
+}
+
+fn are_unreserved(bytes: &[u8]) -> bool
+    ensures { result ≡ list_all is_unreserved bytes.now }
+{
+    bytes.iter().all(|byte| is_unreserved(*byte))
+}
+
+fn is_unreserved(byte: u8) -> bool
+    ensures { result ≡ is_unreserved byte }
+{
+    byte.is_ascii_alphanumeric() || b"-._~".contains(&byte)
 }
 
 /// The bytes of a file, at most `limit` of them.

@@ -25,7 +25,12 @@ impl Model for MemorySink {
 
     ghost Value = { SinkParts };
 
-    ghost view = { λ s. record { bytes = s.bytes.items; failing = s.failing; puts = s.puts; faults = s.faults } };
+    ghost view = { λ s. record {
+      bytes = s.bytes.items;
+      failing = s.failing;
+      puts = s.puts;
+      faults = s.faults;
+    } };
 }
 
 impl MemorySink {

@@ -1,7 +1,9 @@
-ghost use Rattle.std.specs.Prelude.{◌≡◌, ℕ, ◌≤◌, ◌∷◌, ◌++◌, [], List, Some, OnOk, OnErr, IfOk, length, option_map};
+ghost use Rattle.std.specs.Prelude.{◌≡◌, ℕ, ◌≤◌, ◌∷◌, ◌++◌, [], List, Some};
+ghost use Rattle.std.specs.Prelude.{OnOk, OnErr, IfOk, length, option_map};
 ghost use Rattle.source_port.specs.Faults.{HasRisen};
 ghost use Rattle.source_port.specs.Library.{HasBytes, Lacks, PassesLimit, bytes_at};
-ghost use Rattle.source_port.specs.Memory.{new_source, numbered_answer, answer_of, is_listed, next_count, Gives, TakesNumber};
+ghost use Rattle.source_port.specs.Memory.{new_source, numbered_answer, answer_of, is_listed};
+ghost use Rattle.source_port.specs.Memory.{next_count, Gives, TakesNumber};
 
 use crate::library::{FileList, NamedFile, NumberList};
 use crate::source::{FetchError, LibraryName, Source};
@@ -25,7 +27,12 @@ impl Model for MemorySource {
 
     ghost Value = { MemoryParts };
 
-    ghost view = { λ s. record { files = s.files; failing = s.failing; fetched = s.fetched; faults = s.faults } };
+    ghost view = { λ s. record {
+      files = s.files;
+      failing = s.failing;
+      fetched = s.fetched;
+      faults = s.faults;
+    } };
 }
 
 impl MemorySource {
@@ -43,8 +50,9 @@ impl MemorySource {
 
     /// Adds a file, which counts before earlier ones of its address.
     pub fn add(&mut self, address: Text, bytes: Bytes) -> Result<(), AllocError>
-        ensures added { OnOk result (self.new
-            ≡ record self.old { files = self.old.files ++ (record { address = address; bytes = bytes }) ∷ [] }) }
+        ensures added { OnOk result (self.new ≡ record self.old {
+          files = self.old.files ++ (record { address = address; bytes = bytes }) ∷ [];
+        }) }
         ensures refused { OnErr result (self.new ≡ self.old) }
     {
         self.files.push(NamedFile { address, bytes })

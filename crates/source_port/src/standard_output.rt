@@ -1,3 +1,9 @@
+ghost use Rattle.std.specs.Prelude.{◌≡◌, ◌≢◌, ◌≤◌, None, OnOk, OnErr};
+ghost use Rattle.std.specs.Io.KnownBytes.{Appends, Keeps};
+ghost use Rattle.source_port.specs.Faults.{HasRisen};
+ghost use Rattle.source_port.specs.Memory.{next_count};
+ghost use Rattle.source_port.specs.Written.{AppendsPrefix};
+
 use crate::sink::{PutError, Sink};
 use std::alloc::Global;
 use std::io;
@@ -37,7 +43,17 @@ impl<R: Print + Drop> Sink for StdSink<R> {
 
     ghost faults = { λ s. s };
 
-    fn put(&mut self, _alloc: Global, piece: &[u8]) -> Result<(), PutError> {
+    fn put(&mut self, _alloc: Global, piece: &[u8]) -> Result<(), PutError>
+        ensures counted { result ≡ Err PutError.SinkFailed → self.new ≡ next_count self.old }
+        ensures uncounted { result ≢ Err PutError.SinkFailed → self.new ≡ self.old }
+
+        // What every sink ensures.
+        ensures bytes { OnOk result (Appends None None piece.now) }
+        ensures refused { OnErr result (AppendsPrefix None None piece.now) }
+        ensures failed { result ≡ Err PutError.SinkFailed → HasRisen self.old self.new }
+        ensures unwritten { result ≡ Err PutError.OutOfMemory → Keeps None None }
+        ensures never_falls { self.old ≤ self.new }
+    {
         match print_all(&self.rt, piece) {
             Ok(()) => Ok(()),
             Err(PutError::SinkFailed) => {

@@ -35,6 +35,27 @@ fn texts(rt: HostRuntime) -> Result<(), Fail> {
 }
 
 #[test]
+fn texts_behind_each_other(rt: HostRuntime) -> Result<(), Fail> {
+    let alloc = rt.alloc();
+    for (front, more, whole) in [
+        ("", "", ""),
+        ("r", "/0", "r/0"),
+        ("22 bytes fit into this", "", "22 bytes fit into this"),
+        ("21 bytes are in this.", "!", "21 bytes are in this.!"),
+        ("22 bytes fit into this", "!", "22 bytes fit into this!"),
+        (
+            "a",
+            " text that has to lie on the heap",
+            "a text that has to lie on the heap",
+        ),
+    ] {
+        let text = Text::new(alloc, front)?.followed_by(alloc, more)?;
+        assert_eq!(rt; text.as_str(), whole);
+    }
+    Ok(())
+}
+
+#[test]
 fn a_memory_source_fails_by_number(rt: HostRuntime) -> Result<(), Fail> {
     let alloc = rt.alloc();
     let mut source = MemorySource::new(files(alloc)?, numbers(alloc, 2)?);

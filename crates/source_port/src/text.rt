@@ -1,4 +1,4 @@
-ghost use Rattle.std.specs.Prelude.{◌≡◌, ◌≤◌, length, take, IfOk, IsUtf8};
+ghost use Rattle.std.specs.Prelude.{◌≡◌, ◌≤◌, ◌+◌, ◌++◌, length, take, IfOk, IsUtf8};
 ghost use Rattle.source_port.specs.Texts.{short_max};
 
 use std::alloc::{AllocError, Global};
@@ -77,11 +77,53 @@ impl Text {
     pub fn copy(&self, alloc: Global) -> Result<Text, AllocError>
         ensures { IfOk result (λ t. t ≡ self.now) }
     {
-        Text::new(alloc, self.as_str())
+        match &self.form {
+            Form::Short { len, bytes } => Ok(block_text(bytes, usize::from(*len))),
+            Form::Long(text) => Text::new(alloc, text.as_str()),
+        }
+    }
+
+    /// The text with another behind it.
+    pub fn followed_by(&self, alloc: Global, more: &str) -> Result<Text, AllocError>
+        ensures { IfOk result (λ t. t ≡ self.now ++ more.now) }
+    {
+        match &self.form {
+            Form::Short { len, bytes } if usize::from(*len) + more.len() <= SHORT_MAX => {
+                Ok(short_followed_by(*len, *bytes, more))
+            }
+            _ => long_followed_by(alloc, self.as_str(), more),
+        }
     }
 }
 
-/// A text in the value itself, of which a whole block is moved: that takes two instructions, and any other length a call.
+/// A text in the value itself, and another behind it for which there is room.
+fn short_followed_by(len: u8, bytes: [u8; SHORT_MAX], more: &str) -> Text
+    requires fits { len + length more.now ≤ short_max }
+    requires utf8 { IsUtf8 (take len bytes) }
+    ensures { result ≡ take len bytes ++ more.now }
+{
+    let start = usize::from(len);
+    let end = start + more.len();
+    let mut bytes = bytes;
+    bytes[start..end].copy_from_slice(more.as_bytes());
+    Text {
+        form: Form::Short {
+            len: end as u8,
+            bytes,
+        },
+    }
+}
+
+fn long_followed_by(alloc: Global, text: &str, more: &str) -> Result<Text, AllocError>
+    ensures { IfOk result (λ t. t ≡ text.now ++ more.now) }
+{
+    let mut whole = String::from_str(alloc, text)?;
+    whole.push_str(more)?;
+    Text::new(alloc, whole.as_str())
+}
+
+/// A text in the value itself, of which a whole block is moved: that takes two instructions, and any other
+/// length a call.
 #[inline(always)]
 fn block_text(block: &[u8; SHORT_MAX], len: usize) -> Text
     requires fits { len ≤ short_max }
