@@ -1,15 +1,20 @@
 ghost use Rattle.std.specs.Prelude.{◌≡◌, IfOk, List, ℕ, ◌↔◌, Some, Err};
 ghost use Rattle.json_decimal.specs.Grammar.{IsJson};
-ghost use Rattle.json_decimal.specs.JsonValue.{JsonValue};
-ghost use Rattle.json_decimal.specs.Reading.{literal, behind_item, name_at, nested_at, value_at, value_in, unmarked};
+ghost use Rattle.json_decimal.specs.JsonValue.{JsonValue, number, words};
+ghost use Rattle.json_decimal.specs.Numbers.{number_at};
+ghost use Rattle.json_decimal.specs.Reading.{leaf, literal, behind_item, name_at, nested_at};
+ghost use Rattle.json_decimal.specs.Reading.{value_at, value_in, unmarked};
 ghost use Rattle.json_decimal.specs.Scan.{Gives};
 ghost use Rattle.json_decimal.specs.Seen.{behind_view};
+ghost use Rattle.json_decimal.specs.Strings.{string_at};
 ghost use Rattle.json_decimal.specs.View.{value_of};
 ghost use Rattle.json_decimal.specs.WellFormed.{IsWellFormed};
 
 use crate::error::JsonError;
-use crate::json::{Json, JsonList, JsonObject, JsonPair};
+use crate::json::{Json, JsonPair};
+use crate::list::JsonList;
 use crate::numbers::number;
+use crate::object::JsonObject;
 use crate::scan::{after_one, after_word, skip_whitespace};
 use crate::strings::string;
 use source_port::Text;
@@ -38,6 +43,7 @@ fn behind_item(close: u8, bytes: &[u8]) -> Behind<'_>
     }
 }
 
+#[inline(always)]
 fn literal<'a>(word: &[u8], value: Json, bytes: &'a [u8]) -> Result<(Json, &'a [u8]), JsonError>
     ensures { Gives (λ x. (value_of x.0, x.1.now)) result (literal word.now (value_of value) bytes.now) }
 {
@@ -47,25 +53,40 @@ fn literal<'a>(word: &[u8], value: Json, bytes: &'a [u8]) -> Result<(Json, &'a [
     }
 }
 
-/// A value, and the bytes behind the white space that follows it.
+/// A string, from behind its opening quotation mark, as a value.
+#[inline(never)]
+fn string_value(alloc: Global, bytes: &[u8]) -> Result<(Json, &[u8]), JsonError>
+    ensures { Gives (λ x. (value_of x.0, x.1.now)) result (leaf words (string_at bytes.now)) }
+{
+    let (text, rest) = string(alloc, bytes)?;
+    Ok((Json::Words(text), skip_whitespace(rest)))
+}
+
+/// A number as a value.
+#[inline(never)]
+fn number_value(alloc: Global, bytes: &[u8]) -> Result<(Json, &[u8]), JsonError>
+    ensures { Gives (λ x. (value_of x.0, x.1.now)) result (leaf number (number_at bytes.now)) }
+{
+    let (spelling, rest) = number(alloc, bytes)?;
+    Ok((Json::Number(spelling), skip_whitespace(rest)))
+}
+
+/// A value, and the bytes behind the white space that follows it. It is inlined in the loops that read items,
+/// since each call that returns a value moves it once more. Strings and numbers are calls of their own, so
+/// that those loops have few locals to clear.
+#[inline(always)]
 #[cycle(parse)]
 fn value(alloc: Global, depth: usize, bytes: &[u8]) -> Result<(Json, &[u8]), JsonError>
     ensures { Gives (λ x. (value_of x.0, x.1.now)) result (value_at depth bytes.now) }
 {
     match bytes {
-        [b'"', rest @ ..] => {
-            let (text, rest) = string(alloc, rest)?;
-            Ok((Json::Words(text), skip_whitespace(rest)))
-        }
+        [b'"', rest @ ..] => string_value(alloc, rest),
         [b'{', rest @ ..] => object(alloc, depth, rest),
         [b'[', rest @ ..] => list(alloc, depth, rest),
         [b'n', ..] => literal(b"null", Json::Null, bytes),
         [b't', ..] => literal(b"true", Json::Truth(true), bytes),
         [b'f', ..] => literal(b"false", Json::Truth(false), bytes),
-        _ => {
-            let (spelling, rest) = number(alloc, bytes)?;
-            Ok((Json::Number(spelling), skip_whitespace(rest)))
-        }
+        _ => number_value(alloc, bytes),
     }
 }
 

@@ -2,7 +2,8 @@ ghost use Rattle.std.specs.Prelude.{◌≡◌, ◌<◌, ◌≤◌, option_map, I
 ghost use Rattle.std.specs.Char.{IsScalar};
 ghost use Rattle.json_decimal.specs.Characters.{hex_digit, short_escape};
 ghost use Rattle.json_decimal.specs.Scan.{Gives};
-ghost use Rattle.json_decimal.specs.Strings.{unit_at, low_at, units_at, escape_at, plain_len, run_end, string_at, IsShort};
+ghost use Rattle.json_decimal.specs.Strings.{unit_at, low_at, units_at, escape_at};
+ghost use Rattle.json_decimal.specs.Strings.{plain_len, run_end, string_at, IsShort};
 ghost use Rattle.json_decimal.specs.Seen.{run_end_view};
 
 use crate::blocks::{BLOCK, plain_ascii_len};
@@ -137,7 +138,8 @@ fn end_of_run(bytes: &[u8]) -> RunEnd<'_>
     }
 }
 
-/// The length of a string in ASCII with no escape and fewer bytes than a block, from behind its opening quotation mark.
+/// The length of a string in ASCII with no escape and fewer bytes than a block, from behind its opening
+/// quotation mark.
 #[inline(always)]
 fn short_len(bytes: &[u8]) -> Option<usize>
     ensures { IfSome result (IsShort bytes.now) }
