@@ -8,7 +8,7 @@ use Rattle.fixed_geometry.specs.Maps.{Map, IsBounded, parts, linear_limit, ident
 use Rattle.fixed_geometry.specs.Root.{floor_root}
 use Rattle.fixed_geometry.proofs.RootFacts.{is_floor_root}
 
-half_of_parts : (z w : ℤ) → w ≡ z *ℤ pos (10 ^ 9) → half w (10 ^ 9) ≡ z
+pub half_of_parts : (z w : ℤ) → w ≡ z *ℤ pos (10 ^ 9) → half w (10 ^ 9) ≡ z
 half_of_parts z (pos m) e = omega (arith, ints)
 half_of_parts z (negsuc m) e = omega (arith, ints)
 
@@ -18,10 +18,10 @@ held_linear z h = omega (arith, ints, clamps)
 held_coordinate : (z : ℤ) → unsigned_abs z ≤ coordinate_limit → clamp z ≡ z
 held_coordinate z h = omega (arith, ints, clamps)
 
-point_is : (p q : Point) → p.x ≡ q.x → p.y ≡ q.y → p.z ≡ q.z → p ≡ q
+pub point_is : (p q : Point) → p.x ≡ q.x → p.y ≡ q.y → p.z ≡ q.z → p ≡ q
 point_is p q x y z = λ i. record { x = x i; y = y i; z = z i }
 
-map_is : (m n : Map) → m.x ≡ n.x → m.y ≡ n.y → m.z ≡ n.z → m.shift ≡ n.shift → m ≡ n
+pub map_is : (m n : Map) → m.x ≡ n.x → m.y ≡ n.y → m.z ≡ n.z → m.shift ≡ n.shift → m ≡ n
 map_is m n x y z shift = λ i. record { x = x i; y = y i; z = z i; shift = shift i }
 
 -- ---- entries and coordinates
@@ -44,21 +44,21 @@ row_of_identity row h =
     (entry_is row (column_y identity) row.y (omega (arith, ints)) h.y)
     (entry_is row (column_z identity) row.z (omega (arith, ints)) h.z)
 
-identity_row_x : (m : Map) → IsBounded m → row_after identity.x m ≡ m.x
+pub identity_row_x : (m : Map) → IsBounded m → row_after identity.x m ≡ m.x
 identity_row_x m h =
     point_is (row_after identity.x m) m.x
     (entry_is identity.x (column_x m) m.x.x (omega (arith, ints)) h.x.x)
     (entry_is identity.x (column_y m) m.x.y (omega (arith, ints)) h.x.y)
     (entry_is identity.x (column_z m) m.x.z (omega (arith, ints)) h.x.z)
 
-identity_row_y : (m : Map) → IsBounded m → row_after identity.y m ≡ m.y
+pub identity_row_y : (m : Map) → IsBounded m → row_after identity.y m ≡ m.y
 identity_row_y m h =
     point_is (row_after identity.y m) m.y
     (entry_is identity.y (column_x m) m.y.x (omega (arith, ints)) h.y.x)
     (entry_is identity.y (column_y m) m.y.y (omega (arith, ints)) h.y.y)
     (entry_is identity.y (column_z m) m.y.z (omega (arith, ints)) h.y.z)
 
-identity_row_z : (m : Map) → IsBounded m → row_after identity.z m ≡ m.z
+pub identity_row_z : (m : Map) → IsBounded m → row_after identity.z m ≡ m.z
 identity_row_z m h =
     point_is (row_after identity.z m) m.z
     (entry_is identity.z (column_x m) m.z.x (omega (arith, ints)) h.z.x)

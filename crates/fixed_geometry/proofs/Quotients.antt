@@ -1,8 +1,8 @@
 -- Rounded quotients: their sizes, and those of powers of ten.
-use Rattle.std.proofs.Common.{◌≡◌, ℕ, zero, suc, ◌+◌, ◌-◌, ◌*◌, ◌/◌, ◌^◌, ◌<◌, ◌≤◌, arith, sym, ap, ◌∙◌, lit<}
-use Rattle.std.proofs.Math.Nat.{mul-le-mul_left, mul_comm, mul_assoc, mul-div-mul_right, one-le-pow, div-le_self}
+use Rattle.std.proofs.Common.{◌≡◌, ℕ, ◌+◌, ◌-◌, ◌*◌, ◌/◌, ◌^◌, ◌<◌, ◌≤◌, arith, sym, ap, ◌∙◌, lit<}
+use Rattle.std.proofs.Math.Nat.{div-mul-le_self, mul-le-mul_left, mul_comm, mul_assoc, mul-div-mul_right, one-le-pow, div-le_self}
 use Rattle.std.proofs.lemmas.Nat.{div_below, pow-add}
-use Rattle.fixed_geometry.specs.Quotient.{half_size, up_size}
+use Rattle.fixed_geometry.specs.Quotient.{half_size}
 
 pub half_size_le : (n d : ℕ) → 0 < d → half_size n d ≤ n
 half_size_le n d h =
@@ -11,6 +11,12 @@ half_size_le n d h =
     let small : 2 * n + d < (n + 1) * (2 * d) = omega arith in
     let q : (2 * n + d) / (2 * d) < n + 1 = div_below (2 * n + d) (2 * d) (n + 1) (omega arith) small in
     omega arith
+
+pub half_size-at_most : (size n d : ℕ) → size ≡ half_size n d → 2 * (size * d) ≤ 2 * n + d
+half_size-at_most size n d e =
+    let whole = div-mul-le_self (2 * n + d) (2 * d) in
+    let same : 2 * (size * d) ≡ half_size n d * (2 * d) = ap (λ q. 2 * (q * d)) e ∙ omega arith in
+    omega (arith, whole, same)
 
 -- ---- quotients of powers of ten
 

@@ -1,10 +1,9 @@
 -- What the roots are.
-use Rattle.std.proofs.Common.{◌≡◌, ◌≢◌, ℕ, zero, suc, ◌+◌, ◌*◌, ◌^◌, ◌<◌, ◌≤◌, Bool, true, false, cond, leb, ⊎_elim, refl, arith}
+use Rattle.std.proofs.Common.{◌≡◌, ℕ, zero, suc, ◌+◌, ◌*◌, ◌<◌, ◌≤◌, Bool, true, false, cond, leb, ◌==◌, ⊎_elim, refl, arith}
 use Rattle.std.proofs.Math.Nat.{mul-le-mul}
 use Rattle.std.proofs.lemmas.Bool.{cases_lt}
 use Rattle.std.proofs.lemmas.Bool.Decides.{nat_tests}
-use Rattle.std.proofs.lemmas.Nat.{mul-lt}
-use Rattle.fixed_geometry.specs.Root.{floor_root}
+use Rattle.fixed_geometry.specs.Root.{floor_root, ceiling_root}
 
 pub record IsFloorRoot (n r : ℕ) : Type 0 where
   pub square : r * r ≤ n
@@ -36,3 +35,13 @@ below_root n m f h g = ⊎_elim
     (λ (k : m < f). let e : (m + 1) * (m + 1) ≤ f * f = mul-le-mul (omega arith) (omega arith) in absurd (omega arith))
     (λ (k : f ≤ m). k)
     (cases_lt m f)
+
+least_step : (b : Bool) (n m f : ℕ) → (f * f == n) ≡ b → n ≤ m * m → f * f ≤ n → cond b f (f + 1) ≤ m
+least_step true n m f e h g = below_root n m f h g
+least_step false n m f e h g = ⊎_elim
+    (λ (k : f < m). omega arith)
+    (λ (k : m ≤ f). let s : m * m ≤ f * f = mul-le-mul k k in let is : f * f ≡ n = omega arith in grind (arith, nat_tests))
+    (cases_lt f m)
+
+pub ceiling_root-least : (n m : ℕ) → n ≤ m * m → ceiling_root n ≤ m
+ceiling_root-least n m h = least_step (floor_root n * floor_root n == n) n m (floor_root n) refl h (floor_root-is n).square

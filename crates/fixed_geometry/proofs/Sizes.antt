@@ -1,5 +1,5 @@
 -- The sizes of sums and products of signed numbers.
-use Rattle.std.proofs.Common.{◌≡◌, ℕ, ◌+◌, ◌*◌, ◌^◌, ◌≤◌, arith, sym, ℤ, ◌+ℤ◌, ◌-ℤ◌, ◌*ℤ◌, unsigned_abs, w64, subst, lit≤}
+use Rattle.std.proofs.Common.{◌≡◌, ℕ, ◌+◌, ◌*◌, ◌^◌, ◌≤◌, arith, sym, ℤ, ◌+ℤ◌, ◌-ℤ◌, ◌*ℤ◌, unsigned_abs, w64, subst}
 use Rattle.std.specs.Prelude.{FitsSigned}
 use Rattle.std.proofs.lemmas.Int.{ints, unsigned_abs-mul, fits_signed_from_abs}
 use Rattle.std.proofs.lemmas.Nat.{mul-le}
@@ -7,6 +7,8 @@ use mir.Val.{to_z, of_z}
 use mir.Syntax.{w128}
 use Rattle.fixed_geometry.specs.declared.point.Point.{Point}
 use Rattle.fixed_geometry.specs.Points.{IsWithin, dot, difference, norm}
+use Rattle.fixed_geometry.specs.Maps.{Map, IsBounded, column_x, column_y, column_z, linear_limit, max_scale, scale_limit}
+use Rattle.fixed_geometry.proofs.RootFacts.{ceiling_root-least}
 
 pub abs_sum : (a b : ℤ) → unsigned_abs (a +ℤ b) ≤ unsigned_abs a + unsigned_abs b
 abs_sum a b = omega (arith, ints)
@@ -54,3 +56,11 @@ difference_size p q m n h g = record {
 
 pub norm_size : (p : Point) (m : ℕ) → IsWithin m p → norm p ≤ 3 * (m * m)
 norm_size p m h = omega (arith, mul-le (unsigned_abs p.x) (unsigned_abs p.x) m m h.x h.x, mul-le (unsigned_abs p.y) (unsigned_abs p.y) m m h.y h.y, mul-le (unsigned_abs p.z) (unsigned_abs p.z) m m h.z h.z)
+
+-- a map stretches no axis by more than this
+pub max_scale-bound : (m : Map) → IsBounded m → max_scale m ≤ scale_limit
+max_scale-bound m h =
+    let x = norm_size (column_x m) linear_limit (record { x = h.x.x; y = h.y.x; z = h.z.x }) in
+    let y = norm_size (column_y m) linear_limit (record { x = h.x.y; y = h.y.y; z = h.z.y }) in
+    let z = norm_size (column_z m) linear_limit (record { x = h.x.z; y = h.y.z; z = h.z.z }) in
+    ceiling_root-least _ scale_limit (omega (arith, x, y, z))

@@ -1,5 +1,6 @@
 -- Affine maps: three rows of three linear entries in 10^-9 parts, and a shift in millimetres.
-use Rattle.std.specs.Prelude.{ℕ, ◌*◌, ◌^◌, max, ℤ, pos, ◌+ℤ◌}
+use Rattle.std.specs.Prelude.{ℕ, ◌*◌, ◌^◌, ◌≡◌, max, Bool, ◌&&◌, ℤ, pos, ◌+ℤ◌}
+use Rattle.std.specs.Ordering.{int_eq}
 use Rattle.fixed_geometry.specs.Quotient.{half, clamp, held_within}
 use Rattle.fixed_geometry.specs.Root.{ceiling_root}
 use Rattle.fixed_geometry.specs.Points.{IsWithin, coordinate_limit, dot, norm}
@@ -83,3 +84,20 @@ after parent own = record {
 -- the length of the longest column, rounded up: the greatest factor by which an axis is stretched
 abbrev pub max_scale : Map → ℕ
 max_scale m = ceiling_root (max (max (norm (column_x m)) (norm (column_y m))) (norm (column_z m)))
+
+unfoldable pub is_row : Point → Point → Bool
+is_row row other = int_eq row.x other.x && int_eq row.y other.y && int_eq row.z other.z
+
+-- whether the rows are those of the identity, so that a map of these rows only shifts
+abbrev pub only_shift : Point → Point → Point → Bool
+only_shift x y z = is_row x identity.x && is_row y identity.y && is_row z identity.z
+
+-- a point shifted by a map that does nothing else
+abbrev pub shifted : Point → Point → Point
+shifted p shift = record { x = clamp (p.x +ℤ shift.x); y = clamp (p.y +ℤ shift.y); z = clamp (p.z +ℤ shift.z) }
+
+-- the map is within the limits, and this is what is kept with it
+pub record IsKept (m : Map) (scale : ℕ) (shifts : Bool) : Type 0 where
+  pub bounded : IsBounded m
+  pub scale_is : scale ≡ max_scale m
+  pub shifts_is : shifts ≡ only_shift m.x m.y m.z

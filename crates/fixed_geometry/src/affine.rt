@@ -1,9 +1,11 @@
 //! Affine maps of whole numbers.
 
-ghost use Rattle.std.specs.Prelude.{◌≡◌, ◌≤◌, unsigned_abs};
-ghost use Rattle.fixed_geometry.specs.Points.{IsWithin, coordinate_limit};
+ghost use Rattle.std.specs.Prelude.{◌≡◌, ◌≤◌, ◌+ℤ◌, max, unsigned_abs};
+ghost use Rattle.fixed_geometry.specs.Points.{IsWithin, coordinate_limit, norm};
+ghost use Rattle.fixed_geometry.specs.Root.{ceiling_root};
 ghost use Rattle.fixed_geometry.specs.Maps.{linear_limit};
 ghost use Rattle.fixed_geometry.specs.Maps as maps;
+ghost use Rattle.fixed_geometry.specs.Quotient as quotients;
 
 use crate::point::Point;
 use crate::quotient::{clamp, half};
@@ -26,25 +28,40 @@ pub struct Affine {
     y: Point,
     z: Point,
     shift: Point,
+    /// The length of the longest column, which each moved volume and error asks for.
+    scale: u64,
+    /// Whether the rows are those of the identity. Such maps are common, and move a point by three sums.
+    only_shifts: bool,
 }
 
 impl Model for Affine {
-    ghost use Rattle.fixed_geometry.specs.Maps.{Map, IsBounded};
+    ghost use Rattle.std.proofs.Common.{refl};
+    ghost use Rattle.fixed_geometry.specs.Maps.{Map, IsKept, max_scale, only_shift};
 
     ghost Value = { Map };
 
     ghost view = { λ a. record { x = a.x; y = a.y; z = a.z; shift = a.shift } };
 
-    ghost invariant = { λ a. IsBounded (record { x = a.x; y = a.y; z = a.z; shift = a.shift }) };
+    ghost invariant = { λ a.
+        IsKept (record { x = a.x; y = a.y; z = a.z; shift = a.shift }) a.scale a.only_shifts };
 
-    ghost inverse = { λ m. record { x = m.x; y = m.y; z = m.z; shift = m.shift } };
+    ghost inverse = { λ m. record {
+      x = m.x;
+      y = m.y;
+      z = m.z;
+      shift = m.shift;
+      scale = max_scale m;
+      only_shifts = only_shift m.x m.y m.z;
+    } };
+
+    ghost inverse_ok = { λ a h. Prim.rw (h.scale_is, h.shifts_is) refl };
 }
 
 impl Affine {
     ghost use Rattle.std.specs.Prelude.{◌≡◌, ◌≤◌, pos, length};
     ghost use Rattle.fixed_geometry.specs.Points.{IsWithin, coordinate_limit};
     ghost use Rattle.fixed_geometry.specs.Maps as maps;
-    ghost use Rattle.fixed_geometry.specs.Maps.{linear_limit, scale_limit};
+    ghost use Rattle.fixed_geometry.specs.Maps.{IsBounded, linear_limit, scale_limit};
     ghost use Rattle.fixed_geometry.specs.Sixteen.{affine_of};
 
     /// The map that leaves each point where it is.
@@ -68,13 +85,15 @@ impl Affine {
                 z: PARTS,
             },
             shift: Point { x: 0, y: 0, z: 0 },
+            scale: PARTS as u64,
+            only_shifts: true,
         }
     }
 
     /// The map of the sixteen numbers of a transform (OGC 22-025r4, `transform` of a tile).
     ///
-    /// `OutOfRange` with the first index whose number was out of range; where all are in range, `NotAffine` if the
-    /// bottom row is not 0, 0, 0, 1.
+    /// `OutOfRange` with the first index whose number was out of range; where all are in range,
+    /// `NotAffine` if the bottom row is not 0, 0, 0, 1.
     pub fn from_sixteen(numbers: &Sixteen) -> Result<Affine, AffineError>
         requires { length numbers.now ≡ 16 }
         ensures { result ≡ affine_of numbers.now }
@@ -86,12 +105,12 @@ impl Affine {
         if !numbers.is_affine() {
             return Err(AffineError::NotAffine);
         }
-        Ok(Affine {
-            x: numbers.linear(0, 4, 8),
-            y: numbers.linear(1, 5, 9),
-            z: numbers.linear(2, 6, 10),
-            shift: numbers.shift(),
-        })
+        Ok(Affine::of_rows(
+            numbers.linear(0, 4, 8),
+            numbers.linear(1, 5, 9),
+            numbers.linear(2, 6, 10),
+            numbers.shift(),
+        ))
     }
 
     /// The map that applies `own` first, and then this one: a tile's own transform below its parent's.
@@ -100,16 +119,32 @@ impl Affine {
     pub fn then(&self, own: &Affine) -> Affine
         ensures { result ≡ maps.after self.now own.now }
     {
-        Affine {
-            x: row_after(self.x, own),
-            y: row_after(self.y, own),
-            z: row_after(self.z, own),
-            shift: self.apply(own.shift),
+        let shift = self.apply(own.shift);
+        if self.only_shifts {
+            return Affine { shift, ..*own };
         }
+        Affine::of_rows(
+            row_after(self.x, own),
+            row_after(self.y, own),
+            row_after(self.z, own),
+            shift,
+        )
     }
 
     /// Where the map moves a point, in millimetres.
     pub fn apply(&self, p: Point) -> Point
+        requires { IsWithin coordinate_limit p }
+        ensures value { result ≡ maps.apply self.now p }
+        ensures within { IsWithin coordinate_limit result }
+    {
+        if self.only_shifts {
+            return shifted(p, self.shift);
+        }
+        self.apply_rows(p)
+    }
+
+    /// The same for rows of any entries.
+    fn apply_rows(&self, p: Point) -> Point
         requires { IsWithin coordinate_limit p }
         ensures value { result ≡ maps.apply self.now p }
         ensures within { IsWithin coordinate_limit result }
@@ -127,6 +162,9 @@ impl Affine {
         ensures value { result ≡ maps.apply_vector self.now v }
         ensures within { IsWithin coordinate_limit result }
     {
+        if self.only_shifts {
+            return v;
+        }
         Point {
             x: vector_part(self.x, v),
             y: vector_part(self.y, v),
@@ -134,15 +172,55 @@ impl Affine {
         }
     }
 
-    /// The length of the longest column in 10^-9 parts, rounded up: the greatest factor by which an axis is stretched.
+    /// The length of the longest column in 10^-9 parts, rounded up: the greatest factor by which an axis is
+    /// stretched.
     pub fn max_scale(&self) -> i128
         ensures value { result ≡ pos (maps.max_scale self.now) }
         ensures bound { maps.max_scale self.now ≤ scale_limit }
     {
-        let x = self.column_x().norm();
-        let y = self.column_y().norm();
-        let z = self.column_z().norm();
-        root_ceil(x.max(y).max(z)) as i128
+        i128::from(self.scale)
+    }
+
+    /// A step of a proof, which takes no time: the entries and the shift are within the limits of a map.
+    pub fn prove_bounded(&self)
+        ensures { IsBounded self.now }
+    {
+        let _ = &self.scale;
+    }
+
+    /// The map of these rows and this shift.
+    fn of_rows(x: Point, y: Point, z: Point, shift: Point) -> Affine
+        requires x { IsWithin linear_limit x }
+        requires y { IsWithin linear_limit y }
+        requires z { IsWithin linear_limit z }
+        requires shift { IsWithin coordinate_limit shift }
+        ensures { result ≡ record { x = x; y = y; z = z; shift = shift } }
+    {
+        let scale = longest(
+            Point {
+                x: x.x,
+                y: y.x,
+                z: z.x,
+            },
+            Point {
+                x: x.y,
+                y: y.y,
+                z: z.y,
+            },
+            Point {
+                x: x.z,
+                y: y.z,
+                z: z.z,
+            },
+        );
+        Affine {
+            x,
+            y,
+            z,
+            shift,
+            scale,
+            only_shifts: only_shift(x, y, z),
+        }
     }
 
     fn column_x(&self) -> Point
@@ -177,6 +255,50 @@ impl Affine {
             z: self.z.z,
         }
     }
+}
+
+/// The length of the longest of three columns, rounded up.
+fn longest(x: Point, y: Point, z: Point) -> u64
+    requires x { IsWithin linear_limit x }
+    requires y { IsWithin linear_limit y }
+    requires z { IsWithin linear_limit z }
+    ensures { result ≡ ceiling_root (max (max (norm x) (norm y)) (norm z)) }
+{
+    root_ceil(x.norm().max(y.norm()).max(z.norm())) as u64
+}
+
+/// Whether the rows are those of the identity, so that a map of these rows only shifts.
+fn only_shift(x: Point, y: Point, z: Point) -> bool
+    ensures { result ≡ maps.only_shift x y z }
+{
+    is_row(x, PARTS, 0, 0) && is_row(y, 0, PARTS, 0) && is_row(z, 0, 0, PARTS)
+}
+
+#[tactic(auto, unfolding(crate::specs::Maps::is_row))]
+fn is_row(row: Point, x: i64, y: i64, z: i64) -> bool
+    ensures { result ≡ maps.is_row row (record { x = x; y = y; z = z }) }
+{
+    row.x == x && row.y == y && row.z == z
+}
+
+/// A point shifted by a map that does nothing else.
+fn shifted(p: Point, shift: Point) -> Point
+    ensures value { result ≡ maps.shifted p shift }
+    ensures within { IsWithin coordinate_limit result }
+{
+    Point {
+        x: sum(p.x, shift.x),
+        y: sum(p.y, shift.y),
+        z: sum(p.z, shift.z),
+    }
+}
+
+/// A sum of two coordinates, held at their limit.
+fn sum(a: i64, b: i64) -> i64
+    ensures value { result ≡ quotients.clamp (a +ℤ b) }
+    ensures bound { unsigned_abs result ≤ coordinate_limit }
+{
+    clamp(i128::from(a) + i128::from(b))
 }
 
 /// One coordinate of a moved point.

@@ -1,7 +1,8 @@
 //! Decimals as whole numbers of a fixed number of places.
 
 ghost use Rattle.std.specs.Prelude.{◌≡◌, ◌≤◌, ◌<◌, ◌↔◌, ◌≤ℤ◌, pos, unsigned_abs, IfOk, IsOk, IsErr};
-ghost use Rattle.fixed_geometry.specs.Decimal.{fixed, fixed_size, with_sign, places_limit, max_limit};
+ghost use Rattle.fixed_geometry.specs.Decimal.{fixed, fixed_size, has_minus, mantissa, with_sign};
+ghost use Rattle.fixed_geometry.specs.Decimal.{places_limit, max_limit, SameUpTo};
 
 mod common;
 mod general;
@@ -37,15 +38,23 @@ pub fn scaled(text: &str, places: u8, max: i128) -> Result<i128, OutOfRange>
     ensures in_range { IsOk result ↔ (fixed_size text.now places ≤ unsigned_abs max) }
     ensures out_of_range { IsErr result ↔ (unsigned_abs max < fixed_size text.now places) }
 {
-    let bytes = text.as_bytes();
-    let read = match read_common(bytes, places) {
-        Some(read) => read,
-        None => read_general(bytes, places),
-    };
+    let read = read(text.as_bytes(), places);
     if read.size > max as u64 {
         return Err(OutOfRange);
     }
     Ok(i128::from(signed(read.negative, read.size)))
+}
+
+/// The decimal in fixed places: few numbers are spelled otherwise than in the common way.
+fn read(text: &[u8], places: u8) -> Reading
+    requires { places ≤ places_limit }
+    ensures negative { result.negative ≡ has_minus (mantissa text.now) }
+    ensures size { SameUpTo SIZE_CEILING result.size (fixed_size text.now places) }
+{
+    match read_common(text, places) {
+        Some(read) => read,
+        None => read_general(text, places),
+    }
 }
 
 fn signed(negative: bool, size: u64) -> i64

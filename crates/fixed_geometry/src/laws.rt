@@ -4,7 +4,8 @@ ghost use Rattle.std.specs.Prelude.{◌≡◌, ℕ};
 ghost use Rattle.fixed_geometry.specs.Decimal.{fixed};
 ghost use Rattle.fixed_geometry.specs.declared.point.Point.{Point};
 ghost use Rattle.fixed_geometry.specs.Points.{IsWithin, coordinate_limit};
-ghost use Rattle.fixed_geometry.specs.Maps.{Map, IsBounded, parts, identity, after, apply, apply_vector, max_scale};
+ghost use Rattle.fixed_geometry.specs.Maps.{Map, IsBounded, parts};
+ghost use Rattle.fixed_geometry.specs.Maps.{identity, after, apply, apply_vector, max_scale};
 ghost use Rattle.fixed_geometry.specs.Spelling.{Spelling, IsSpelling, text_of, decimal_of};
 
 /// A number's text is read as the decimal that its sign, digits and exponent stand for (RFC 8259, section 6).

@@ -1,4 +1,4 @@
-//! Whole-number geometry: decimals read to fixed places, rounded quotients, square roots, points and affine maps.
+//! Whole-number geometry: decimals in fixed places, rounded quotients, square roots, points and affine maps.
 #![tactic(auto)]
 
 mod affine;

@@ -1,6 +1,6 @@
 //! Rounded quotients of whole numbers, and the coordinate nearest to a number.
 
-ghost use Rattle.std.specs.Prelude.{◌≡◌, ◌≤◌, ◌<◌, ◌+◌, ◌*◌, unsigned_abs};
+ghost use Rattle.std.specs.Prelude.{◌≡◌, ◌≤◌, ◌<◌, ◌+◌, ◌*◌, ◌/◌, unsigned_abs};
 ghost use Rattle.fixed_geometry.specs.Points.{coordinate_limit};
 ghost use Rattle.fixed_geometry.specs.Quotient as quotients;
 ghost use Rattle.fixed_geometry.specs.Quotient.{operand_limit};
@@ -20,7 +20,7 @@ pub fn half(n: i128, d: u128) -> i128
     ensures at_most { 2 * (unsigned_abs result * d) ≤ 2 * unsigned_abs n + d }
     ensures at_least { 2 * unsigned_abs n + d < 2 * ((unsigned_abs result + 1) * d) }
 {
-    let size = (2 * n.unsigned_abs() + d) / (2 * d);
+    let size = quotient(2 * n.unsigned_abs() + d, 2 * d);
     with_sign_of(n, size)
 }
 
@@ -38,6 +38,17 @@ pub fn up(n: i128, d: u128) -> i128
 {
     let size = (n.unsigned_abs() + (d - 1)) / d;
     with_sign_of(n, size)
+}
+
+/// `n / d`, rounded down. Where both fit 64 bits, so does the division, which is then much faster.
+fn quotient(n: u128, d: u128) -> u128
+    requires { 0 < d }
+    ensures { result ≡ n / d }
+{
+    match (u64::try_from(n), u64::try_from(d)) {
+        (Ok(n), Ok(d)) => u128::from(n / d),
+        _ => n / d,
+    }
 }
 
 fn with_sign_of(n: i128, size: u128) -> i128

@@ -18,10 +18,11 @@ pub enum AffineError {
     NotAffine,
 }
 
-/// Up to sixteen numbers in column-major order, each as a map reads it at its index, or none where it was out of range.
+/// Up to sixteen numbers in column-major order, each as a map reads it at its index, or none where it was
+/// out of range.
 ///
-/// Numbers 12, 13 and 14, the shift, are read from metres to millimetres and are at most 2^36 in size; the others are
-/// read in 10^-9 parts and are at most 2^20 * 10^9 in size.
+/// Numbers 12, 13 and 14, the shift, are read from metres to millimetres and are at most 2^36 in size; the
+/// others are read in 10^-9 parts and are at most 2^20 * 10^9 in size.
 #[derive(Drop)]
 pub struct Sixteen {
     count: usize,

@@ -192,6 +192,33 @@ fn a_stretching_map(rt: HostRuntime) {
 }
 
 #[test]
+fn a_shifting_map(rt: HostRuntime) {
+    let shifting = read_sixteen([
+        "1", "0", "0", "0", "0", "1", "0", "0", "0", "0", "1", "0", "0.5", "-1", "2", "1",
+    ]);
+    match Affine::from_sixteen(&shifting) {
+        Ok(map) => {
+            let p = Point {
+                x: 1000,
+                y: 1000,
+                z: 1 << 36,
+            };
+            assert_eq!(rt; map.max_scale(), 1_000_000_000);
+            assert_eq!(rt;
+                map.apply(p),
+                Point {
+                    x: 1500,
+                    y: 0,
+                    z: 1 << 36
+                }
+            );
+            assert_eq!(rt; map.apply_vector(p), p);
+        }
+        Err(_) => assert!(rt; false),
+    }
+}
+
+#[test]
 fn numbers_that_give_no_map(rt: HostRuntime) {
     let far = read_sixteen([
         "0.5", "0", "1048577", "0", "0", "2", "0", "1", "0", "0", "1", "0", "1e300", "0", "0", "1",

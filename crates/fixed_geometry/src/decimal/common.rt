@@ -9,7 +9,8 @@ ghost use Rattle.fixed_geometry.specs.Decimal.{places_limit, has_minus, mantissa
 
 use super::{Reading, SIZE_CEILING};
 
-/// The most bytes behind the minus that are read here: their digits spell a number below 10^19, which fits 64 bits.
+/// The most bytes behind the minus that are read here: their digits spell a number below 10^19, which fits
+/// 64 bits.
 const LONGEST: usize = 19;
 
 /// The decimal in fixed places, read in one pass, or none where it is spelled otherwise or is too long.
@@ -38,8 +39,8 @@ fn split_sign(text: &[u8]) -> (bool, &[u8])
     }
 }
 
-/// The number that the digits spell, and how many of them stand behind the point, or none where there is anything but
-/// digits and one point.
+/// The number that the digits spell, and how many of them stand behind the point, or none where there is
+/// anything but digits and one point.
 fn read_digits(number: &[u8]) -> Option<(u64, usize)>
     requires { length number.now ≤ LONGEST }
     ensures number { IfSome result (λ r. SpellsUnsigned number.now r.0 r.1) }
@@ -70,7 +71,8 @@ fn digit_of(byte: u8) -> u64
     u64::from(byte).wrapping_sub(u64::from(b'0'))
 }
 
-/// The size that has `value` for its digits, `fraction` of them behind the point, in fixed places, held at 64 bits.
+/// The size that has `value` for its digits, `fraction` of them behind the point, in fixed places, held at
+/// 64 bits.
 fn in_places(value: u64, fraction: usize, places: u8) -> u64
     requires value { value < 10 ^ LONGEST }
     requires fraction { fraction ≤ LONGEST }

@@ -2,7 +2,8 @@
 
 ghost use Rattle.std.specs.Prelude.{◌≡◌, ◌≤◌, ◌+◌, ◌-◌, ◌*◌, ◌/◌, ◌^◌, min, if◌then◌else◌, length};
 ghost use Rattle.std.specs.List.{position_or_len};
-ghost use Rattle.fixed_geometry.specs.Decimal.{places_limit, is_point, is_exponent_mark, has_minus, mantissa, digits_value, digit_count, fixed_size, SameUpTo};
+ghost use Rattle.fixed_geometry.specs.Decimal.{places_limit, is_point, is_exponent_mark, has_minus, mantissa};
+ghost use Rattle.fixed_geometry.specs.Decimal.{digits_value, digit_count, fixed_size, SameUpTo};
 
 use super::{Reading, SIZE_CEILING};
 
@@ -27,7 +28,8 @@ pub(crate) fn read_general(text: &[u8], places: u8) -> Reading
 
 /// The size of the decimal in fixed places, held at the ceiling.
 ///
-/// The digit behind the last place decides how that place is rounded, so the digits up to there are read, and no other.
+/// The digit behind the last place decides how that place is rounded, so the digits up to there are read,
+/// and no other.
 fn general_size(text: &[u8], places: u8) -> u64
     requires { places ≤ places_limit }
     ensures { result ≡ min (fixed_size text.now places) SIZE_CEILING }
@@ -113,7 +115,8 @@ fn kept_digits(room: u128, divides: bool, exponent: u128) -> u128
     }
 }
 
-/// The number that the first `keep` digits spell, with zeros behind them where there are fewer, held at the ceiling.
+/// The number that the first `keep` digits spell, with zeros behind them where there are fewer, held at the
+/// ceiling.
 fn leading_digits(mantissa: &[u8], keep: u128) -> u128
     ensures { let count = digit_count mantissa.now in
         let kept = digits_value mantissa.now * 10 ^ (keep - count) / 10 ^ (count - keep) in
