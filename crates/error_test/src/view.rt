@@ -3,7 +3,8 @@
 ghost use Rattle.std.specs.Prelude.{◌≡◌, ◌*◌, ◌^◌, ◌<◌, ◌≤◌, ◌↔◌, length, take, IsOk, MatchOption};
 ghost use Rattle.std.specs.List.{list_all};
 ghost use Rattle.error_test.specs.Padding.{padded};
-ghost use Rattle.error_test.specs.Views.{IsViewInRange, fault, is_bounding, is_counted, is_within, plane_limit, view_parts};
+ghost use Rattle.error_test.specs.Views.{IsViewInRange, fault, is_bounding, is_counted, is_within};
+ghost use Rattle.error_test.specs.Views.{plane_limit, view_parts};
 
 use fixed_geometry::Point;
 use std::marker::Model;
@@ -70,9 +71,18 @@ impl Model for View {
 
     ghost view = { λ v. view_parts v.eye v.height v.tan_over v.tan_under v.allowed (take v.plane_count v.planes) };
 
-    ghost invariant = { λ v. IsKept v.plane_count v.planes (view_parts v.eye v.height v.tan_over v.tan_under v.allowed (take v.plane_count v.planes)) };
+    ghost invariant = { λ v. IsKept v.plane_count v.planes
+        (view_parts v.eye v.height v.tan_over v.tan_under v.allowed (take v.plane_count v.planes)) };
 
-    ghost inverse = { λ p. record { eye = p.eye; height = p.height; tan_over = p.tan_over; tan_under = p.tan_under; allowed = p.allowed; plane_count = length p.planes; planes = padded p.planes } };
+    ghost inverse = { λ p. record {
+      eye = p.eye;
+      height = p.height;
+      tan_over = p.tan_over;
+      tan_under = p.tan_under;
+      allowed = p.allowed;
+      plane_count = length p.planes;
+      planes = padded p.planes;
+    } };
 
     ghost inverse_ok = { λ a h. Prim.rw (h.rest, length-kept a.plane_count a.planes h.few h.rest) refl };
 }

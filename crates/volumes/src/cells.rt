@@ -3,7 +3,9 @@
 ghost use Rattle.std.specs.Prelude.{◌≡◌, ◌<◌, ◌≤◌, ◌^◌, unsigned_abs};
 ghost use Rattle.fixed_geometry.specs.Points.{IsWithin, coordinate_limit};
 ghost use Rattle.fixed_geometry.specs.Quotient.{up};
-ghost use Rattle.volumes.specs.Cells.{cell_centre, cell_count, cell_offset, centre_component, divided, oct_offsets, quad_offsets, split_oct, split_quad, x_components, y_components, z_components};
+ghost use Rattle.volumes.specs.Cells.{cell_centre, cell_count, cell_offset, centre_component, divided};
+ghost use Rattle.volumes.specs.Cells.{oct_offsets, quad_offsets, split_oct, split_quad};
+ghost use Rattle.volumes.specs.Cells.{x_components, y_components, z_components};
 ghost use Rattle.volumes.specs.Limits.{AreHalfAxesInRange, IsBox, IsInRange, level_limit};
 
 use crate::volume::Volume;

@@ -3,7 +3,8 @@
 ghost use Rattle.std.specs.Prelude.{IsTrue, ◌≡◌, ◌<◌, ◌≤◌, ◌^◌, ◌*◌, ◌/◌, nat_le, unsigned_abs};
 ghost use Rattle.fixed_geometry.specs.Points.{IsWithin, coordinate_limit, difference, norm};
 ghost use Rattle.fixed_geometry.specs.Root.{floor_root};
-ghost use Rattle.volumes.specs.Distances.{contains, distance, gap, is_between_faces, is_inside_box, squared, squared_gaps};
+ghost use Rattle.volumes.specs.Distances.{contains, distance, gap, is_between_faces, is_inside_box};
+ghost use Rattle.volumes.specs.Distances.{squared, squared_gaps};
 ghost use Rattle.volumes.specs.Limits.{AreHalfAxesInRange, IsInRange, distance_limit};
 
 use crate::volume::Volume;
