@@ -1,4 +1,4 @@
-use crate::{read_view, view_text};
+use crate::{read_back, read_view, view_text};
 use error_test::View;
 use fixed_geometry::Point;
 use volumes::Plane;
@@ -68,4 +68,17 @@ fn a_written_view(rt: HostRuntime) {
         return assert!(rt; false);
     };
     assert_eq!(rt; text.as_str(), "@1,-2,30:1080:1/2:256:1,0,0,-5:1,0,0,7");
+}
+
+#[test]
+fn a_view_that_is_read_back(rt: HostRuntime) {
+    let eye = Point { x: 1, y: -2, z: 30 };
+    let planes = [east_of(-5), east_of(7)];
+    let Ok(view) = View::new(eye, 1080, 1, 2, 256, &planes) else {
+        return assert!(rt; false);
+    };
+    let Ok(again) = read_back(rt.alloc(), &view) else {
+        return assert!(rt; false);
+    };
+    assert!(rt; again == Some(view));
 }

@@ -9,7 +9,8 @@ ghost use Rattle.fixed_geometry.specs.declared.point.Point.{Point};
 ghost use Rattle.volumes.specs.declared.plane.Plane.{Plane};
 ghost use Rattle.session_script.specs.Ascii.{colon};
 ghost use Rattle.session_script.specs.ViewTexts.{IsPlaneOf64, IsPointOf64, text_of_plane, text_of_point};
-ghost use Rattle.session_script.specs.ViewTexts.{text_of_screen, text_of_tangent, text_of_view, without_planes};
+ghost use Rattle.session_script.specs.ViewTexts.{text_of_screen, text_of_tangent, text_of_view};
+ghost use Rattle.session_script.specs.ViewTexts.{without_planes};
 
 use crate::marks::{cut, first_part};
 use crate::number::number;
@@ -40,7 +41,8 @@ pub fn read_view(text: &str) -> Option<View>
 
 /// The text of a view, in its one spelling.
 pub fn view_text(alloc: Global, view: &View) -> Result<String, AllocError>
-    ensures { IfOk result (λ text. string_bytes text ≡ text_of_view view.now) }
+    ensures value { IfOk result (λ text. string_bytes text ≡ text_of_view view.now) }
+    ensures within { IfOk result (λ _. fault view.now ≡ None) }
 {
     let mut text = text_before_planes(alloc, view)?;
     for plane in view.planes() {

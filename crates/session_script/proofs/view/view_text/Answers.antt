@@ -1,5 +1,6 @@
 use Rattle.std.proofs.Common.{arith, ◌∙◌, ◌∷◌, ◌++◌, ap, get_or, sym, take}
 use Rattle.std.proofs.lemmas.List.{take_more}
+use Rattle.error_test.proofs.ViewLimits.{no_fault}
 use Rattle.error_test.specs.Padding.{no_plane}
 use Rattle.session_script.specs.Ascii.{colon}
 use Rattle.session_script.specs.ViewTexts.{text_of_plane, text_of_view}
@@ -18,3 +19,6 @@ loop-plane-preserved c =
     ∙ (ap (λ text. text ++ (colon ∷ text_of_plane plane)) l.invariant
     ∙ (sym (text_of_view-push v read plane)
     ∙ ap (λ ps. text_of_view (with_planes v ps)) (sym more)))
+
+pub returns-clause-within : goal.returns-clause-within
+returns-clause-within c = no_fault c.args.view.now c.planes-plane-items.ensures.within
