@@ -1,7 +1,8 @@
 //! How many nodes a view visits.
 
-ghost use Rattle.std.specs.Prelude.{◌≡◌, ◌≢◌, Err, IfOk, IsErrOf, IsOk, length};
-ghost use Rattle.cut_core.specs.Visits.{HasOpenedVisited, IsWithinLimit, OpensOnlyVisited, PassesLimit, visits};
+ghost use Rattle.std.specs.Prelude.{◌≡◌, ◌≢◌, Err, IfOk, IsErrOf, IsOk, OnOk, length};
+ghost use Rattle.cut_core.specs.Visits.{HasOpenedEachVisited, HasOpenedVisited, OpensOnlyVisited};
+ghost use Rattle.cut_core.specs.Visits.{IsWithinLimit, PassesLimit, visits};
 
 use crate::error::CutError;
 use crate::holdings::Holdings;
@@ -40,6 +41,7 @@ pub fn visited<T: TileTree>(alloc: Global, tree: &mut T, view: &View) -> Result<
     ensures tree { (T.standing tree.new).tree ≡ (T.standing tree.old).tree }
     ensures opens { OpensOnlyVisited view.now (T.standing tree.old) (T.standing tree.new) }
     ensures opened { result ≢ Err CutError.OutOfMemory → HasOpenedVisited view.now (T.standing tree.new) }
+    ensures opened_each { OnOk result (HasOpenedEachVisited view.now (T.standing tree.new)) }
 {
     let walk = walk_whole(alloc, tree, &NothingHeld, view)?;
     Ok(walk.visits.len() as u32)

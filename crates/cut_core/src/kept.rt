@@ -4,8 +4,9 @@ ghost use Rattle.std.specs.Prelude.{◌≡◌, ◌≢◌, ◌++◌, [], All, Err
 ghost use Rattle.std.specs.Prelude.{OnOk, map, if◌then◌else◌};
 ghost use Rattle.std.specs.List.{flat_map};
 ghost use Rattle.cut_core.specs.Cut.{own_contents};
-ghost use Rattle.cut_core.specs.Visits.{HasOpenedVisited, IsWithinLimit, OpensOnlyVisited, PassesLimit};
-ghost use Rattle.cut_core.specs.Visits.{content_key, kept_keys};
+ghost use Rattle.cut_core.specs.Laws.{KeepsShown};
+ghost use Rattle.cut_core.specs.Visits.{HasOpenedEachVisited, HasOpenedVisited, OpensOnlyVisited};
+ghost use Rattle.cut_core.specs.Visits.{IsWithinLimit, PassesLimit, content_key, kept_keys};
 
 use crate::error::CutError;
 use crate::holdings::Holdings;
@@ -42,7 +43,7 @@ fn push_own<T: TileTree, H: Holdings>(
     Ok(())
 }
 
-/// The keys of what the with_note nodes keep.
+/// The keys of what the noted nodes keep.
 fn keys_kept<T: TileTree, H: Holdings>(
     alloc: Global,
     tree: &T,
@@ -80,6 +81,11 @@ pub fn keep<T: TileTree, H: Holdings>(
     ensures tree { (T.standing tree.new).tree ≡ (T.standing tree.old).tree }
     ensures opens { OpensOnlyVisited view.now (T.standing tree.old) (T.standing tree.new) }
     ensures opened { result ≢ Err CutError.OutOfMemory → HasOpenedVisited view.now (T.standing tree.new) }
+    ensures opened_each { OnOk result (HasOpenedEachVisited view.now (T.standing tree.new)) }
+
+    // No content that the cut shows is left out.
+    ensures shown { let root = (T.standing tree.old).tree in
+        IfOk result (λ keys. KeepsShown view.now (H.held holdings.now) root keys) }
 {
     let walk = walk_whole(alloc, tree, holdings, view)?;
     Ok(keys_kept(alloc, tree, holdings, &walk.visits)?)

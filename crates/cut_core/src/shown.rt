@@ -5,7 +5,8 @@ ghost use Rattle.std.specs.List.{flat_map};
 ghost use Rattle.cut_core.specs.Cut.{cut as cut_of, ideal as ideal_of, lines_of, with_all};
 ghost use Rattle.cut_core.specs.Laws.{BecomesReady, CoversIdeal, HasIdeal, IsLoaded, OfEachNode, OfRoot};
 ghost use Rattle.cut_core.specs.Laws.{ShowsAtPlaces, ShowsNoneBelow, ShowsWhatStays};
-ghost use Rattle.cut_core.specs.Visits.{HasOpenedVisited, IsWithinLimit, OpensOnlyVisited, PassesLimit};
+ghost use Rattle.cut_core.specs.Visits.{HasOpenedEachVisited, HasOpenedVisited, OpensOnlyVisited};
+ghost use Rattle.cut_core.specs.Visits.{IsWithinLimit, PassesLimit};
 
 use crate::error::CutError;
 use crate::holdings::Holdings;
@@ -73,6 +74,7 @@ fn walked_lines<T: TileTree, H: Holdings>(
     ensures tree { (T.standing tree.new).tree ≡ (T.standing tree.old).tree }
     ensures opens { OpensOnlyVisited view.now (T.standing tree.old) (T.standing tree.new) }
     ensures opened { result ≢ Err CutError.OutOfMemory → HasOpenedVisited view.now (T.standing tree.new) }
+    ensures opened_each { OnOk result (HasOpenedEachVisited view.now (T.standing tree.new)) }
 {
     let walk = walk_whole(alloc, tree, holdings, view)?;
     Ok(lines_shown(alloc, tree, holdings, &walk.shown)?)
@@ -95,6 +97,7 @@ pub fn cut<T: TileTree, H: Holdings>(
     ensures tree { (T.standing tree.new).tree ≡ (T.standing tree.old).tree }
     ensures opens { OpensOnlyVisited view.now (T.standing tree.old) (T.standing tree.new) }
     ensures opened { result ≢ Err CutError.OutOfMemory → HasOpenedVisited view.now (T.standing tree.new) }
+    ensures opened_each { OnOk result (HasOpenedEachVisited view.now (T.standing tree.new)) }
 
     // The laws of the cut, said of the places that are shown.
     ensures places { OfRoot (ShowsAtPlaces view.now (H.held holdings.now)) (T.standing tree.old).tree }
@@ -141,6 +144,7 @@ pub fn ideal<T: TileTree, H: Holdings>(
     ensures tree { (T.standing tree.new).tree ≡ (T.standing tree.old).tree }
     ensures opens { OpensOnlyVisited view.now (T.standing tree.old) (T.standing tree.new) }
     ensures opened { result ≢ Err CutError.OutOfMemory → HasOpenedVisited view.now (T.standing tree.new) }
+    ensures opened_each { OnOk result (HasOpenedEachVisited view.now (T.standing tree.new)) }
 
     // Once no visited node is pending.
     ensures ready { let root = (T.standing tree.old).tree in

@@ -1,10 +1,10 @@
 //! The walk over the visited nodes.
 
-ghost use Rattle.std.specs.Prelude.{◌≡◌, ◌<◌, ◌≤◌, ◌+◌, ◌∷◌, ◌++◌, ◌||◌, [], IfOk, IsErrOf, IsTrue};
+ghost use Rattle.std.specs.Prelude.{◌≡◌, ◌<◌, ◌≤◌, ◌+◌, ◌∷◌, ◌++◌, ◌||◌, [], Err, IfOk, IsErrOf, IsTrue};
 ghost use Rattle.std.specs.Prelude.{OnErr, OnOk, length, take, if◌then◌else◌};
 ghost use Rattle.std.specs.List.{list_all};
 ghost use Rattle.cut_core.specs.Cut.{has_own, is_ready, lacks_own};
-ghost use Rattle.cut_core.specs.Standing.{Keeps, OpensSome};
+ghost use Rattle.cut_core.specs.Standing.{Keeps, Opens, OpensEach};
 ghost use Rattle.cut_core.specs.Tree.{children_of, facts_of};
 ghost use Rattle.cut_core.specs.Visits.{keeps_own, visited_limit, visited_nodes};
 ghost use Rattle.cut_core.specs.Walk.{IsWanting, Stopped, WalkedChildren, WalkedNode, WalkedTile};
@@ -30,7 +30,7 @@ pub struct Visit {
     pub kept: bool,
 }
 
-/// What a walk has findings_of so far.
+/// What a walk has found so far.
 #[derive(Drop)]
 pub struct Walk {
     /// The nodes that are shown, in preorder.
@@ -40,7 +40,7 @@ pub struct Walk {
 }
 
 impl Walk {
-    /// A walk that has findings_of nothing yet.
+    /// A walk that has found nothing yet.
     pub fn new(alloc: Global) -> Walk
         ensures { findings_of result ≡ no_findings }
     {
@@ -54,6 +54,7 @@ impl Walk {
     fn note(&mut self, node: Node, kept: bool) -> Result<(), CutError>
         ensures ok { OnOk result (findings_of self.new ≡ with_note (findings_of self.old) node kept) }
         ensures within { OnOk result (length self.old.visits.items < visited_limit) }
+        ensures full { visited_limit ≤ length self.old.visits.items → result ≡ Err CutError.TooLarge }
         ensures too_large { IsErrOf result CutError.TooLarge → visited_limit ≤ length self.old.visits.items }
     {
         if self.visits.len() >= VISITED_LIMIT {
@@ -88,17 +89,18 @@ fn open_wanted<T: TileTree>(
     alloc: Global,
     tree: &mut T,
     node: Node,
-    wanting: bool,
+    may_want: bool,
 ) -> Result<u32, AllocError>
     requires valid { IsTrue ((T.standing tree.old).is_valid node) }
     ensures keeps { Keeps (T.standing tree.old) (T.standing tree.new) }
-    ensures count { IfOk result (λ n.
-        n ≡ (if wanting then length (children_of ((T.standing tree.old).node_tree node)) else 0)) }
+    ensures count { let children = children_of ((T.standing tree.old).node_tree node) in
+        IfOk result (λ n. n ≡ (if may_want then length children else 0)) }
     ensures at_hand { IfOk result (λ n. 0 < n → IsTrue ((T.standing tree.new).at_hand node)) }
-    ensures opens { OpensSome (T.standing tree.old) (T.standing tree.new)
-        ((T.standing tree.old).node_tree node ∷ []) }
+    ensures opens { let opened = if may_want then (T.standing tree.old).node_tree node ∷ [] else [] in
+        OnOk result (OpensEach (T.standing tree.old) (T.standing tree.new) opened) }
+    ensures err { OnErr result (Opens (T.standing tree.old) (T.standing tree.new) []) }
 {
-    if !wanting {
+    if !may_want {
         return Ok(0);
     }
     tree.open_children(alloc, node)
@@ -124,7 +126,7 @@ fn show_tile<T: TileTree, H: Holdings>(
 }
 
 /// Shows a tile in place of what its children show, if it has contents of its own, and answers whether they
-/// are resident. What was shown before the children is that many nodes.
+/// are resident. `before` is how many nodes were shown before the children.
 fn fall_back<T: TileTree, H: Holdings>(
     tree: &T,
     holdings: &H,
@@ -173,7 +175,7 @@ pub fn walk_node<T: TileTree, H: Holdings>(
         IfOk result (λ ready. ready ≡ is_ready view.now (H.held holdings.now) t) }
     ensures walked { OnOk result (WalkedNode (T.standing tree.old) (T.standing tree.new) view.now
         (H.held holdings.now) node (findings_of walk.old) (findings_of walk.new)) }
-    ensures stopped { OnErr result (Stopped (T.standing tree.old) (T.standing tree.new)
+    ensures stopped { OnErr result (Stopped (T.standing tree.old) (T.standing tree.new) view.now
         (visited_nodes view.now ((T.standing tree.old).node_tree node))) }
     ensures too_large { let nodes = visited_nodes view.now ((T.standing tree.old).node_tree node) in
         IsErrOf result CutError.TooLarge → visited_limit < length walk.old.visits.items + length nodes }
@@ -185,6 +187,7 @@ pub fn walk_node<T: TileTree, H: Holdings>(
             Ok(false)
         }
         NodeKind::Tile { may_want, refine } => {
+            // The note stands before those of the children, which decide whether the contents are kept.
             let at = walk.visits.len();
             walk.note(node, true)?;
             let count = open_wanted(alloc, tree, node, may_want)?;
@@ -222,7 +225,7 @@ fn walk_tile<T: TileTree, H: Holdings>(
         IfOk result (λ state. state.kept ≡ keeps_own view.now (H.held holdings.now) t) }
     ensures walked { OnOk result (WalkedTile (T.standing tree.old) (T.standing tree.new) view.now
         (H.held holdings.now) node (findings_of walk.old) (findings_of walk.new)) }
-    ensures stopped { OnErr result (Stopped (T.standing tree.old) (T.standing tree.new)
+    ensures stopped { OnErr result (Stopped (T.standing tree.old) (T.standing tree.new) view.now
         (visited_below view.now ((T.standing tree.old).node_tree node))) }
     ensures too_large { let nodes = visited_below view.now ((T.standing tree.old).node_tree node) in
         IsErrOf result CutError.TooLarge → visited_limit < length walk.old.visits.items + length nodes }
@@ -271,7 +274,7 @@ fn walk_children<T: TileTree, H: Holdings>(
         IfOk result (λ all. all ≡ list_all (is_ready view.now (H.held holdings.now)) (children_of t)) }
     ensures walked { OnOk result (WalkedChildren (T.standing tree.old) (T.standing tree.new) view.now
         (H.held holdings.now) node (findings_of walk.old) (findings_of walk.new)) }
-    ensures stopped { OnErr result (Stopped (T.standing tree.old) (T.standing tree.new)
+    ensures stopped { OnErr result (Stopped (T.standing tree.old) (T.standing tree.new) view.now
         (visited_below view.now ((T.standing tree.old).node_tree node))) }
     ensures too_large { let nodes = visited_below view.now ((T.standing tree.old).node_tree node) in
         IsErrOf result CutError.TooLarge → visited_limit < length walk.old.visits.items + length nodes }

@@ -1,8 +1,9 @@
 //! The walk of a whole tree.
 
-ghost use Rattle.std.specs.Prelude.{◌≡◌, ◌≢◌, [], Err, IfOk, IsErrOf, IsOk, length};
+ghost use Rattle.std.specs.Prelude.{◌≡◌, ◌≢◌, [], Err, IfOk, IsErrOf, IsOk, OnOk, length};
 ghost use Rattle.cut_core.specs.Cut.{from_root, shown_tiles};
-ghost use Rattle.cut_core.specs.Visits.{HasOpenedVisited, IsWithinLimit, OpensOnlyVisited, PassesLimit, visits};
+ghost use Rattle.cut_core.specs.Visits.{HasOpenedEachVisited, HasOpenedVisited, OpensOnlyVisited};
+ghost use Rattle.cut_core.specs.Visits.{IsWithinLimit, PassesLimit, visits};
 ghost use Rattle.cut_core.specs.Walk.{NotesMore, ShowsMore};
 
 use crate::error::CutError;
@@ -30,6 +31,7 @@ pub fn walk_whole<T: TileTree, H: Holdings>(
     ensures tree { (T.standing tree.new).tree ≡ (T.standing tree.old).tree }
     ensures opens { OpensOnlyVisited view.now (T.standing tree.old) (T.standing tree.new) }
     ensures opened { result ≢ Err CutError.OutOfMemory → HasOpenedVisited view.now (T.standing tree.new) }
+    ensures opened_each { OnOk result (HasOpenedEachVisited view.now (T.standing tree.new)) }
 {
     let mut walk = Walk::new(alloc);
     let Some(root) = tree.top(alloc)? else {

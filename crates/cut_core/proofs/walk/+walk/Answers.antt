@@ -5,10 +5,11 @@ use Rattle.cut_core.specs.Tree.{tree_size, children_of}
 use Rattle.cut_core.specs.Cut.{adds, is_add, has_own, lacks_own, is_ready}
 use Rattle.cut_core.specs.Standing.{StandsFor}
 use Rattle.cut_core.specs.Walk.{Findings}
-use Rattle.cut_core.proofs.Lists.{all_more, add_agrees, or_true, or_false}
+use Rattle.cut_core.proofs.Bools.{or_true, or_false}
+use Rattle.cut_core.proofs.Lists.{all_more, add_agrees}
 use Rattle.cut_core.proofs.CutSteps.{ready_adding, ready_replacing}
 use Rattle.cut_core.proofs.Trees.{child_size}
-use Rattle.cut_core.proofs.Walks.{on_err, err_same, counts_some, children_more, children_stopped, children_over, node_culled, node_pending, node_wanting, stopped_here, stopped_opened, stopped_below, over_below, tile_adding, tile_refined, tile_coarse, walked_none}
+use Rattle.cut_core.proofs.Walks.{on_err, err_same, counts_some, children_more, children_stopped, children_over, node_culled, node_pending, node_wanting, stopped_here, stopped_unopened, opens_alone, stopped_opened, stopped_walked, stopped_below, over_below, tile_adding, tile_refined, tile_coarse, walked_none}
 use Rattle.cut_core.proofs.walk.+walk.Goals as goal
 
 pub walk_children-loop-i-init : goal.walk_children-loop-i-init
@@ -56,16 +57,21 @@ walk_children-loop-i-preserved g t c =
     }
 
 pub walk_node-returns-in_err-note-in-Pending-clause-stopped : goal.walk_node-returns-in_err-note-in-Pending-clause-stopped
-walk_node-returns-in_err-note-in-Pending-clause-stopped g t c = on_err c.from_residual.result (stopped_here (g.T.TileTree.standing c.args.tree.now) _)
+walk_node-returns-in_err-note-in-Pending-clause-stopped g t c = on_err c.from_residual.result (stopped_here (g.T.TileTree.standing c.args.tree.now) c.args.view.now _)
 
 pub walk_node-returns-in_err-note-in-Tile-clause-stopped : goal.walk_node-returns-in_err-note-in-Tile-clause-stopped
-walk_node-returns-in_err-note-in-Tile-clause-stopped g t c = on_err c.from_residual-in_err-note-in-Tile.result (stopped_here (g.T.TileTree.standing c.args.tree.now) _)
+walk_node-returns-in_err-note-in-Tile-clause-stopped g t c = on_err c.from_residual-in_err-note-in-Tile.result (stopped_here (g.T.TileTree.standing c.args.tree.now) c.args.view.now _)
 
 pub walk_node-returns-in_err-count-in-Tile-clause-stopped : goal.walk_node-returns-in_err-count-in-Tile-clause-stopped
 walk_node-returns-in_err-count-in-Tile-clause-stopped g t c =
+    on_err c.from_residual-in_err-count-in-Tile.result (stopped_unopened c.args.view.now _ c.open_wanted.ensures.keeps c.in_err-count-in-Tile.ensures.err)
+
+pub walk_node-returns-in_err-show_tile-in-Tile-clause-stopped : goal.walk_node-returns-in_err-show_tile-in-Tile-clause-stopped
+walk_node-returns-in_err-show_tile-in-Tile-clause-stopped g t c =
     let here = (g.T.TileTree.standing c.args.tree.now).node_tree c.args.node in
-    on_err c.from_residual-in_err-count-in-Tile.result
-    (stopped_opened c.args.view.now here c.in-Tile.ensures.seen c.open_wanted.ensures.keeps c.open_wanted.ensures.opens)
+    on_err c.from_residual-in_err-show_tile-in-Tile.result
+    (stopped_opened c.args.view.now here c.in-Tile.ensures.seen c.open_wanted.ensures.keeps
+    (opens_alone c.args.view.now here c.in-Tile.may_want c.in-Tile.ensures.tile c.in-Tile.ensures.wants c.in_ok-count-in-Tile.ensures.opens))
 
 pub walk_node-returns-in_err-state-in-Tile-clause-stopped : goal.walk_node-returns-in_err-state-in-Tile-clause-stopped
 walk_node-returns-in_err-state-in-Tile-clause-stopped g t c =
@@ -73,7 +79,8 @@ walk_node-returns-in_err-state-in-Tile-clause-stopped g t c =
     let wanted = counts_some c.args.view.now here c.in-Tile.may_want c.in_ok-count-in-Tile.count c.in-Tile.ensures.wants c.in_ok-count-in-Tile.ensures.count (omega arith) in
     let same = c.open_wanted.ensures.keeps.same c.args.node c.requires.valid in
     on_err c.from_residual-in_err-state-in-Tile.result
-    (stopped_below c.args.view.now here c.in-Tile.ensures.seen wanted.0 c.open_wanted.ensures.keeps c.open_wanted.ensures.opens (rw same at c.in_err-state-in-Tile.ensures.stopped))
+    (stopped_below c.args.view.now here c.in-Tile.ensures.seen wanted.0 c.open_wanted.ensures.keeps
+    (opens_alone c.args.view.now here c.in-Tile.may_want c.in-Tile.ensures.tile c.in-Tile.ensures.wants c.in_ok-count-in-Tile.ensures.opens) (rw same at c.in_err-state-in-Tile.ensures.stopped))
 
 pub walk_node-returns-in_err-state-in-Tile-clause-too_large : goal.walk_node-returns-in_err-state-in-Tile-clause-too_large
 walk_node-returns-in_err-state-in-Tile-clause-too_large g t c =
@@ -105,11 +112,15 @@ walk_node-returns-in_ok-state-in-Tile-clause-walked g t c =
     let wanted = counts_some c.args.view.now here c.in-Tile.may_want c.in_ok-count-in-Tile.count c.in-Tile.ensures.wants c.in_ok-count-in-Tile.ensures.count (omega arith) in
     let same = c.open_wanted.ensures.keeps.same c.args.node c.requires.valid in
     node_wanting c.args.view.now (g.H.Holdings.held c.args.holdings.now) c.args.node here c.in_ok-state-in-Tile.state.kept c.in-Tile.ensures.seen wanted.0
-    c.open_wanted.ensures.keeps c.open_wanted.ensures.opens stand c.in_ok-note-in-Tile.ensures.ok
+    c.open_wanted.ensures.keeps (opens_alone c.args.view.now here c.in-Tile.may_want c.in-Tile.ensures.tile c.in-Tile.ensures.wants c.in_ok-count-in-Tile.ensures.opens) stand c.in_ok-note-in-Tile.ensures.ok
     (rw same at c.in_ok-state-in-Tile.ensures.walked) (rw same at c.in_ok-state-in-Tile.ensures.kept) (rw (sym (c.len-at.ensures ∙ c.args.walk.now.visits.ok.0)) c.note_again.ensures)
 
 pub walk_tile-returns-in_err-show-in-Add-clause-stopped : goal.walk_tile-returns-in_err-show-in-Add-clause-stopped
-walk_tile-returns-in_err-show-in-Add-clause-stopped g t c = on_err c.from_residual.result (stopped_here (g.T.TileTree.standing c.args.tree.now) _)
+walk_tile-returns-in_err-show-in-Add-clause-stopped g t c = on_err c.from_residual.result (stopped_here (g.T.TileTree.standing c.args.tree.now) c.args.view.now _)
+
+pub walk_tile-returns-in_err-ready-in-Replace-clause-stopped : goal.walk_tile-returns-in_err-ready-in-Replace-clause-stopped
+walk_tile-returns-in_err-ready-in-Replace-clause-stopped g t c =
+    on_err c.from_residual-in_err-ready-in-Replace.result (stopped_walked c.args.view.now (g.H.Holdings.held c.args.holdings.now) _ _ c.in_ok-all-in-Replace.ensures.walked)
 
 pub walk_tile-returns-then-all-clause-ready : goal.walk_tile-returns-then-all-clause-ready
 walk_tile-returns-then-all-clause-ready g t c =
