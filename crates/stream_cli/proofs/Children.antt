@@ -1,15 +1,15 @@
 -- The children of a tile: the member by recursion on the members, and as the last member of the name.
-use Rattle.std.proofs.Common.{◌≡◌, ℕ, suc, ◌+◌, ◌≤◌, Bool, true, false, ◌&&◌, List, [], ◌∷◌, Option, Some, None, refl, ap, ◌∙◌, sym, arith, nat_le, if◌then◌else◌, codes}
+use Rattle.std.proofs.Common.{◌≡◌, ℕ, suc, ◌+◌, ◌≤◌, Bool, true, false, List, [], ◌∷◌, Option, Some, None, refl, ◌∙◌, sym, arith, nat_le, if◌then◌else◌, codes}
 use Rattle.std.specs.Str.{bytes_eq}
-use Rattle.json_decimal.specs.JsonValue.{JsonValue, Values, Pairs, null, truth, number, words, list, object, no_values, value, no_pairs, pair, list_of, pairs_of, last_of, later}
+use Rattle.json_decimal.specs.JsonValue.{JsonValue, Values, Pairs, null, truth, number, words, list, object, no_values, value, no_pairs, pair, list_of, pairs_of, last_of}
 use Rattle.cut_core.specs.Tree.{Tree, tile, Trees, no_trees, more_trees}
-use Rattle.stream_cli.specs.Form.{◌>>=◌, Inherited, Written, Members, tile_tree, children_in, listed_trees, child_trees, child_name, tile_names, is_among, times_named, has_only, written_tile}
+use Rattle.stream_cli.specs.Form.{◌>>=◌, Inherited, Written, Members, tile_tree, children_in, listed_trees, child_trees, child_name, tile_names, tile_values, is_among, times_named, has_only, written_tile}
 use Rattle.std.specs.List.{list_all}
-use Rattle.std.proofs.lemmas.List.Sums.{sum_by-cons}
 use Rattle.std.proofs.lemmas.List.Folds.{list_all_at}
 use Rattle.std.proofs.lemmas.Bool.{true_from_ne_false, leb-true, false≢true}
 use Rattle.stream_cli.specs.Nodes.{from_list}
-use Rattle.stream_cli.specs.Waiting.{Parts, parts_of, with_children, child_values, entry_trees, child_entries}
+use Rattle.stream_cli.proofs.Named.{one_more, no_more, last_of-unnamed, later-none, both_right}
+use Rattle.stream_cli.specs.Waiting.{Parts, parts_of, parts_by, with_children, child_values, entry_trees, child_entries}
 
 -- ---- the trees of children, by their entries
 
@@ -42,26 +42,6 @@ member_trees-values name from (Some (object ps)) = refl
 
 -- ---- the first member of a name that comes once is the last
 
-one_more : (name : List ℕ) (m : List ℕ × JsonValue) (ms : Members) → bytes_eq m.0 name ≡ true → times_named (m ∷ ms) name ≡ suc (times_named ms name)
-one_more name m ms k = sum_by-cons (λ (member : List ℕ × JsonValue). if bytes_eq member.0 name then 1 else 0) m ms ∙ ap (λ b. (if b then 1 else 0) + times_named ms name) k ∙ omega arith
-
-no_more : (name : List ℕ) (m : List ℕ × JsonValue) (ms : Members) → bytes_eq m.0 name ≡ false → times_named (m ∷ ms) name ≡ times_named ms name
-no_more name m ms k = sum_by-cons (λ (member : List ℕ × JsonValue). if bytes_eq member.0 name then 1 else 0) m ms ∙ ap (λ b. (if b then 1 else 0) + times_named ms name) k ∙ omega arith
-
-last_of-unnamed : (name : List ℕ) (ms : Members) → times_named ms name ≡ 0 → last_of name ms ≡ None
-last_of-unnamed name [] e = refl
-last_of-unnamed name (m ∷ ms) e = go (λ h. last_of-unnamed name ms h) (bytes_eq m.0 name) refl
-  where
-    go : (times_named ms name ≡ 0 → last_of name ms ≡ None) → (b : Bool) → bytes_eq m.0 name ≡ b → last_of name (m ∷ ms) ≡ None
-    go below true k = let more : times_named (m ∷ ms) name ≡ suc (times_named ms name) = one_more name m ms k in absurd (omega (arith, more, e))
-    go below false k =
-        let same : times_named (m ∷ ms) name ≡ times_named ms name = no_more name m ms k in
-        rw (k, below (sym same ∙ e)) refl
-
-later-none : (o : Option JsonValue) → later o None ≡ o
-later-none None = refl
-later-none (Some v) = refl
-
 children_in-last : (name : List ℕ) (from : Inherited) (ps : Pairs) → times_named (pairs_of ps) (codes "children") ≤ 1 → children_in name from ps ≡ member_trees name from (last_of (codes "children") (pairs_of ps))
 children_in-last name from no_pairs few = refl
 children_in-last name from (pair key v ps) few = go (λ h. children_in-last name from ps h) (bytes_eq key (codes "children")) refl
@@ -76,14 +56,6 @@ children_in-last name from (pair key v ps) few = go (λ h. children_in-last name
         rw (k, later-none (last_of (codes "children") (pairs_of ps))) (below (omega (arith, same, few)))
 
 -- ---- a tile by its parts
-
-both_left : (a b : Bool) → (a && b) ≡ true → a ≡ true
-both_left true b e = refl
-both_left false b e = cc
-
-both_right : (a b : Bool) → (a && b) ≡ true → b ≡ true
-both_right true b e = e
-both_right false b e = cc
 
 -- of a tile's members `children` comes once at most
 children_once : (ms : Members) → has_only tile_names ms ≡ true → times_named ms (codes "children") ≤ 1
@@ -119,12 +91,12 @@ tile_tree-parts name from (words s) = refl
 tile_tree-parts name from (list vs) = refl
 tile_tree-parts name from (object ps) = go (has_only tile_names (pairs_of ps)) refl
   where
-    inner : has_only tile_names (pairs_of ps) ≡ true → (o : Option Written) → (o >>= λ w. children_in name w.handed ps >>= λ children. Some (tile name w.facts w.contents children)) ≡ ((o >>= with_children (pairs_of ps)) >>= parts_tree name)
+    inner : has_only tile_names (pairs_of ps) ≡ true → (o : Option Written) → (o >>= λ w. children_in name w.handed ps >>= λ children. Some (tile name w.facts w.contents children)) ≡ ((o >>= with_children (last_of (codes "children") (pairs_of ps))) >>= parts_tree name)
     inner k None = refl
     inner k (Some w) = rw (children_in-last name w.handed ps (children_once (pairs_of ps) k)) (with_values name w (last_of (codes "children") (pairs_of ps)))
 
     go : (b : Bool) → has_only tile_names (pairs_of ps) ≡ b
-        → ((if b then Some (pairs_of ps) else None) >>= λ own. written_tile from own >>= λ w. children_in name w.handed ps >>= λ children. Some (tile name w.facts w.contents children))
-        ≡ (((if b then Some (pairs_of ps) else None) >>= λ own. written_tile from own >>= with_children own) >>= parts_tree name)
+        → ((if b then Some (tile_values (pairs_of ps)) else None) >>= λ own. written_tile from own >>= λ w. children_in name w.handed ps >>= λ children. Some (tile name w.facts w.contents children))
+        ≡ (((if b then Some (tile_values (pairs_of ps)) else None) >>= parts_by from) >>= parts_tree name)
     go false k = refl
-    go true k = inner k (written_tile from (pairs_of ps))
+    go true k = inner k (written_tile from (tile_values (pairs_of ps)))

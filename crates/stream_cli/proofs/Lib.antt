@@ -5,9 +5,10 @@ mod DocumentTrees
 mod Entries
 mod Levels
 mod Marks
-mod Names
+mod Named
 mod NodeTrees
 mod Prefixes
+mod Put
 mod Reading
 mod Sixteens
 mod ThreeWords

@@ -1,6 +1,6 @@
 -- The form of the tileset documents that are read, and the tile tree that each describes
 -- (OGC 22-025r4, "Tileset JSON").
-use Rattle.std.specs.Prelude.{ℕ, ◌+◌, ℤ, pos, negsuc, unsigned_abs, min, nat_le, Bool, true, false, ◌&&◌, ◌||◌, if◌then◌else◌, Option, Some, None, Result, Ok, Err, List, [], ◌∷◌, ◌++◌, length, drop, ◌-◌, count_by, codes, decimal, bytes_eq, ◌==◌}
+use Rattle.std.specs.Prelude.{ℕ, ◌+◌, ℤ, pos, negsuc, unsigned_abs, min, nat_le, Bool, true, false, ◌&&◌, ◌||◌, if◌then◌else◌, Option, Some, None, Result, Ok, Err, List, [], ◌∷◌, ◌++◌, length, drop, ◌-◌, count_by, map, codes, decimal, bytes_eq, ◌==◌}
 use Rattle.std.specs.List.{list_all, list_any}
 use Rattle.std.specs.Str.{str_to_ascii_lowercase}
 use Rattle.json_decimal.specs.JsonValue.{JsonValue, Values, Pairs, null, truth, number, words, list, object, no_values, value, no_pairs, pair, list_of, pairs_of, last_of}
@@ -74,6 +74,11 @@ has_only names members = list_all (λ member. is_among names member.0) members &
 -- the members, if no other names are among them and none comes twice
 abbrev pub members_within : List (List ℕ) → Members → Option Members
 members_within names members = if has_only names members then Some members else None
+
+-- the values of the members of these names, in the names' order, if no other names are among the members and none
+-- comes twice
+abbrev pub values_named : List (List ℕ) → Members → Option (List (Option JsonValue))
+values_named names members = if has_only names members then Some (map (λ name. last_of name members) names) else None
 
 abbrev pub if_named : List ℕ → List ℕ → JsonValue → Option JsonValue
 if_named name key v = if bytes_eq key name then Some v else None
@@ -222,6 +227,29 @@ abbrev pub tile_names : List (List ℕ)
 tile_names =
     codes "boundingVolume" ∷ codes "geometricError" ∷ codes "content" ∷ codes "children" ∷ codes "transform" ∷ codes "refine" ∷ []
 
+-- the values of a tile's members, none where there is no such member
+pub record TileValues : Type 0 where
+  pub bounding_volume : Option JsonValue
+  pub geometric_error : Option JsonValue
+  pub content : Option JsonValue
+  pub children : Option JsonValue
+  pub transform : Option JsonValue
+  pub refine : Option JsonValue
+
+abbrev pub tile_values : Members → TileValues
+tile_values members = record {
+  bounding_volume = last_of (codes "boundingVolume") members;
+  geometric_error = last_of (codes "geometricError") members;
+  content = last_of (codes "content") members;
+  children = last_of (codes "children") members;
+  transform = last_of (codes "transform") members;
+  refine = last_of (codes "refine") members;
+}
+
+-- the values, if no other members are there and none comes twice
+abbrev pub tile_members : Members → Option TileValues
+tile_members members = if has_only tile_names members then Some (tile_values members) else None
+
 -- what the children of a tile take over from it: its computed transform and its refinement
 pub record Inherited : Type 0 where
   pub transform : Map
@@ -246,15 +274,15 @@ written_by volume error contents computed refine = record {
   handed = record { transform = computed; refine = refine };
 }
 
--- the members of a tile, but for its children; what it doesn't have it takes from its parent
-abbrev pub written_tile : Inherited → Members → Option Written
-written_tile from members =
-    last_of (codes "boundingVolume") members >>= λ v. volume_of v >>= λ volume.
-    last_of (codes "geometricError") members >>= λ e. error_of e >>= λ error.
-    contents_of (last_of (codes "content") members) >>= λ contents.
-    or_default identity transform_of (last_of (codes "transform") members) >>= λ own.
-    or_default from.refine refinement_of (last_of (codes "refine") members) >>= λ refine.
-    Some (written_by volume error contents (after from.transform own) refine)
+-- what the values say, but for the children; what a tile doesn't have it takes from its parent
+abbrev pub written_tile : Inherited → TileValues → Option Written
+written_tile from own =
+    own.bounding_volume >>= λ v. volume_of v >>= λ volume.
+    own.geometric_error >>= λ e. error_of e >>= λ error.
+    contents_of own.content >>= λ contents.
+    or_default identity transform_of own.transform >>= λ transform.
+    or_default from.refine refinement_of own.refine >>= λ refine.
+    Some (written_by volume error contents (after from.transform transform) refine)
 
 -- the name of a child: its parent's, and its place among the children from 0
 abbrev pub child_name : List ℕ → ℕ → List ℕ
@@ -269,7 +297,7 @@ abbrev mutual
   tile_tree name from (words text) = None
   tile_tree name from (list items) = None
   tile_tree name from (object members) =
-      members_within tile_names (pairs_of members) >>= λ own.
+      tile_members (pairs_of members) >>= λ own.
       written_tile from own >>= λ written.
       children_in name written.handed members >>= λ children.
       Some (tile name written.facts written.contents children)

@@ -3,6 +3,7 @@ pub mod Commands
 pub mod Documents
 pub mod Form
 pub mod Listed
+pub mod Members
 pub mod Nodes
 pub mod Report
 pub mod Runs

@@ -1,13 +1,13 @@
 -- Tiles that are still to be read.
-use Rattle.std.specs.Prelude.{◌≡◌, ℕ, ◌+◌, ◌<◌, ◌≤◌, Option, Some, None, option_map, List, [], ◌∷◌, ◌++◌, map, length, slice_get, codes}
+use Rattle.std.specs.Prelude.{◌≡◌, ℕ, ◌+◌, ◌<◌, ◌≤◌, Option, Some, None, option_map, List, [], ◌∷◌, ◌++◌, map, length, slice_get}
 use Rattle.std.specs.Borrow.{Bor}
 use Rattle.json_decimal.specs.declared.json.Json.{Json}
 use Rattle.stream_cli.specs.declared.node.TileNode.{TileNode}
-use Rattle.json_decimal.specs.JsonValue.{JsonValue, last_of}
+use Rattle.json_decimal.specs.JsonValue.{JsonValue}
 use Rattle.json_decimal.specs.View.{value_of}
 use Rattle.fixed_geometry.specs.Maps.{Map, identity}
 use Rattle.source_port.specs.declared.key.Refine.{Refine}
-use Rattle.stream_cli.specs.Form.{◌>>=◌, Members, Inherited, Written, members_of, members_within, tile_names, tile_limit, written_tile, transform_of, refinement_of, or_default, items_of, tile_tree, child_name}
+use Rattle.stream_cli.specs.Form.{◌>>=◌, Inherited, Written, TileValues, tile_members, members_of, tile_limit, written_tile, transform_of, refinement_of, or_default, items_of, tile_tree, child_name}
 use Rattle.stream_cli.specs.Nodes.{contents_by, tile_facts}
 use Rattle.stream_cli.specs.declared.waiting.HandedOn.{HandedOn}
 use Rattle.stream_cli.specs.declared.waiting.Waiting.{Waiting}
@@ -47,11 +47,14 @@ child_values value = or_default [] items_of value
 abbrev pub Parts : Type 0
 Parts = Written × List JsonValue
 
-abbrev pub with_children : Members → Written → Option Parts
-with_children members written = child_values (last_of (codes "children") members) >>= λ values. Some (written, values)
+abbrev pub with_children : Option JsonValue → Written → Option Parts
+with_children children written = child_values children >>= λ values. Some (written, values)
+
+abbrev pub parts_by : Inherited → TileValues → Option Parts
+parts_by from own = written_tile from own >>= with_children own.children
 
 abbrev pub parts_of : Inherited → JsonValue → Option Parts
-parts_of from v = members_of v >>= members_within tile_names >>= λ own. written_tile from own >>= with_children own
+parts_of from v = members_of v >>= tile_members >>= parts_by from
 
 abbrev pub parts_seen : ReadTile × Option (Bor (List ℕ)) × Bor (List Json) → Parts
 parts_seen parts = (written_of parts.0 parts.1, map value_of parts.2.now)

@@ -10,7 +10,7 @@ ghost use Rattle.stream_cli.specs.declared.document.DocumentError.TheVariants as
 
 use crate::form::FormError;
 use crate::listed::ListedTree;
-use crate::members::{has_only, members_of, number_of, only_member, text_of};
+use crate::members::{members_of, number_of, only_member, put_named, text_of};
 use crate::tiles::read_nodes;
 use cut_core::{CutError, CutList, Holdings, ideal};
 use error_test::View;
@@ -63,13 +63,12 @@ fn asset_of(value: &Json) -> Option<&str>
 fn root_value(json: &Json) -> Option<&Json>
     ensures { option_map (λ root. value_of root.now) result ≡ root_value (value_of json.now) }
 {
-    let members = members_of(json)?;
-    if !has_only(&TOP_NAMES, members) {
-        return None;
-    }
-    asset_of(members.last("asset")?)?;
-    number_of(members.last("geometricError")?)?;
-    members.last("root")
+    let mut values = [None; 3];
+    put_named(&TOP_NAMES, &mut values, members_of(json)?)?;
+    let [asset, error, root] = values;
+    asset_of(asset?)?;
+    number_of(error?)?;
+    root
 }
 
 /// The value of a document, whose bytes are let go.

@@ -15,6 +15,7 @@ mod run;
 #[cfg(test)]
 mod tests;
 mod tile;
+mod tile_members;
 mod tiles;
 mod waiting;
 mod words;

@@ -1,10 +1,11 @@
 //! The members of JSON objects (RFC 8259, section 4), and what their values are.
 
-ghost use Rattle.std.specs.Prelude.{◌≡◌, map, option_map, bytes_eq, nat_le};
-ghost use Rattle.std.specs.List.{list_all, list_any};
-ghost use Rattle.json_decimal.specs.JsonValue.{list_of, pairs_of, last_of};
+ghost use Rattle.std.specs.Prelude.{◌≡◌, map, option_map, None, bytes_eq, length, IsTrue};
+ghost use Rattle.std.specs.List.{position};
+ghost use Rattle.json_decimal.specs.JsonValue.{list_of, pairs_of};
 ghost use Rattle.json_decimal.specs.View.{value_of, pair_of};
-ghost use Rattle.stream_cli.specs.Form.{members_of, items_of, number_of, text_of, times_named, has_only, only_member};
+ghost use Rattle.stream_cli.specs.Form.{members_of, items_of, number_of, text_of, values_named, only_member};
+ghost use Rattle.stream_cli.specs.Members.{plain, seen, are_distinct, with_member};
 
 use json_decimal::{Json, JsonObject, JsonPair};
 
@@ -48,41 +49,49 @@ pub fn text_of(value: &Json) -> Option<&str>
     }
 }
 
-fn is_among(names: &[&'static str], name: &str) -> bool
-    ensures { result ≡ list_any (λ n. bytes_eq n.now name.now) names.now }
+/// Where a name stands among the names.
+fn place_of(names: &[&'static str], name: &str) -> Option<usize>
+    ensures { result ≡ position (λ n. bytes_eq n.now name.now) names.now }
 {
-    names.iter().any(|other| *other == name)
+    names.iter().position(|other| *other == name)
 }
 
-fn are_among(names: &[&'static str], members: &[JsonPair]) -> bool
-    ensures { result ≡ list_all (λ m. list_any (λ n. bytes_eq n.now m.name) names.now) members.now }
+/// Puts the value of a member at the place of its name, if its name is listed and nothing stands there.
+fn put<'a>(
+    names: &[&'static str],
+    values: &mut [Option<&'a Json>],
+    member: &'a JsonPair,
+) -> Option<()>
+    requires places { length values.old ≡ length names.now }
+    ensures places { length values.new ≡ length names.now }
+    ensures more { option_map (λ _. seen values.new) result
+        ≡ with_member (plain names.now) (seen values.old) (pair_of member.now) }
 {
-    members
-        .iter()
-        .all(|member| is_among(names, member.name.as_str()))
+    let Some(place) = place_of(names, member.name.as_str()) else {
+        return None;
+    };
+    if values[place].is_some() {
+        return None;
+    }
+    values[place] = Some(&member.value);
+    Some(())
 }
 
-fn times_named(members: &[JsonPair], name: &str) -> usize
-    ensures { result ≡ times_named (map pair_of members.now) name.now }
+/// Puts the value of each member at the place of its name among the names, where nothing stands yet. Nothing where a
+/// member has a name that isn't listed, or where one of these comes twice.
+pub fn put_named<'a>(
+    names: &[&'static str],
+    values: &mut [Option<&'a Json>],
+    members: &'a JsonObject,
+) -> Option<()>
+    requires distinct { IsTrue (are_distinct (plain names.now)) }
+    requires empty { seen values.old ≡ map (λ _. None) names.now }
+    ensures { option_map (λ _. seen values.new) result ≡ values_named (plain names.now) (pairs_of members.now) }
 {
-    members
-        .iter()
-        .filter(|member| member.name.as_str() == name)
-        .count()
-}
-
-fn come_once(names: &[&'static str], members: &[JsonPair]) -> bool
-    ensures { result ≡ list_all (λ n. nat_le (times_named (map pair_of members.now) n.now) 1) names.now }
-{
-    names.iter().all(|name| times_named(members, name) <= 1)
-}
-
-/// Whether no member has a name that isn't listed, and none of these comes twice.
-pub fn has_only(names: &[&'static str], members: &JsonObject) -> bool
-    ensures { result ≡ has_only (map (λ n. n.now) names.now) (pairs_of members.now) }
-{
-    let members = members.as_slice();
-    are_among(names, members) && come_once(names, members)
+    for member in members.as_slice() {
+        put(names, values, member)?;
+    }
+    Some(())
 }
 
 /// The value of the one member of an object, if it has this name.

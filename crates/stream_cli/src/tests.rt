@@ -17,6 +17,8 @@ const VIEW: &str = "@0,0,10000:1000:1/2:256";
 
 const WORDS: [&str; 3] = ["cut", "t.json", VIEW];
 
+const NOT_YET: &str = "fault 2 document NotYet - -\n";
+
 /// A document up to its root tile.
 const TOP: &str = r#"{"asset":{"version":"1.1"},"geometricError":10,"root":"#;
 
@@ -35,6 +37,21 @@ const TWO_CHILDREN: [&str; 7] = [
     r#"0,"content":{"uri":"b.glb"}},"#,
     TILE,
     r#"0,"content":{"uri":"c.glb"}}]}}"#,
+];
+
+/// Documents that aren't read: a byte too few, a member twice, a member of another name, no error, and a box of four
+/// numbers.
+const CUT_OFF: [&str; 3] = [TOP, TILE, r#"1,"content":{"uri":"a.glb"}}"#];
+
+const TWICE: [&str; 3] = [TOP, TILE, r#"1,"refine":"ADD","refine":"ADD"}}"#];
+
+const UNKNOWN: [&str; 3] = [TOP, TILE, r#"1,"extras":{}}}"#];
+
+const NO_ERROR: [&str; 2] = [TOP, r#"{"boundingVolume":{"sphere":[0,0,0,5]}}}"#];
+
+const BOX_OF_FOUR: [&str; 2] = [
+    TOP,
+    r#"{"boundingVolume":{"box":[0,0,0,5]},"geometricError":1}}"#,
 ];
 
 /// The document of a tile with this error and members, and one child of error 0.
@@ -240,17 +257,12 @@ fn refinement(rt: HostRuntime) -> Result<(), Fail> {
 
 #[test]
 fn refused_documents(rt: HostRuntime) -> Result<(), Fail> {
-    let cut_off = [TOP, TILE, r#"1,"content":{"uri":"a.glb"}}"#];
-    let box_of_four = [
-        TOP,
-        r#"{"boundingVolume":{"box":[0,0,0,5]},"geometricError":1}}"#,
-    ];
     let rows = [
-        Row::new("a byte too few", &WORDS, &cut_off).ends(2, "fault 2 document NotJson - -\n"),
-        Row::new("a box of four numbers", &WORDS, &box_of_four).ends(
-            2,
-            "fault 2 document NotYet - -\n",
-        ),
+        Row::new("a member twice", &WORDS, &TWICE).ends(2, NOT_YET),
+        Row::new("a member that isn't read", &WORDS, &UNKNOWN).ends(2, NOT_YET),
+        Row::new("no error", &WORDS, &NO_ERROR).ends(2, NOT_YET),
+        Row::new("a byte too few", &WORDS, &CUT_OFF).ends(2, "fault 2 document NotJson - -\n"),
+        Row::new("a box of four numbers", &WORDS, &BOX_OF_FOUR).ends(2, NOT_YET),
     ];
     check_all(&rt, &rows)
 }

@@ -1,32 +1,23 @@
 //! One tile of a document, without its children (OGC 22-025r4, "Tiles").
 
-ghost use Rattle.std.specs.Prelude.{◌≡◌, ◌≤◌, map, option_map, codes};
-ghost use Rattle.json_decimal.specs.JsonValue.{pairs_of, last_of};
+ghost use Rattle.std.specs.Prelude.{◌≡◌, ◌≤◌, map, option_map};
 ghost use Rattle.json_decimal.specs.View.{value_of};
 ghost use Rattle.fixed_geometry.specs.Maps.{after, identity};
 ghost use Rattle.volumes.specs.Limits.{IsInRange, error_limit};
 ghost use Rattle.volumes.specs.Moves.{moved, moved_error};
 ghost use Rattle.stream_cli.specs.Form.{contents_of, written_tile};
+ghost use Rattle.stream_cli.specs.Members.{values_seen};
 ghost use Rattle.stream_cli.specs.Nodes.{contents_by};
 ghost use Rattle.stream_cli.specs.Waiting.{map_of, own_transform, own_refinement, handed_of, written_seen, child_values, parts_of, parts_seen};
 
-use crate::members::{has_only, items_of, members_of};
+use crate::members::{items_of, members_of};
+use crate::tile_members::{TileMembers, tile_members};
 use crate::waiting::{HandedOn, ReadTile};
 use crate::written::{error_of, refinement_of, transform_of, uri_of, volume_of};
 use fixed_geometry::Affine;
-use json_decimal::{Json, JsonObject};
+use json_decimal::Json;
 use source_port::Refine;
 use volumes::{Volume, moved_error};
-
-/// The members of a tile.
-const TILE_NAMES: [&str; 6] = [
-    "boundingVolume",
-    "geometricError",
-    "content",
-    "children",
-    "transform",
-    "refine",
-];
 
 /// The transform of a tile, which stands for the identity where there is none.
 fn own_transform(value: Option<&Json>) -> Option<Option<Affine>>
@@ -56,14 +47,23 @@ fn own_uri(value: Option<&Json>) -> Option<Option<&str>>
     }
 }
 
+/// A map with the identity beside it, which changes nothing.
+fn unchanged(map: &Affine) -> Affine
+    ensures parent { result ≡ after map.now identity }
+    ensures own { result ≡ after identity map.now }
+{
+    map.prove_bounded();
+    *map
+}
+
 /// A transform behind that of the parent.
 fn computed(from: &Option<Affine>, own: &Option<Affine>) -> Option<Affine>
     ensures { map_of result ≡ after (map_of from.now) (map_of own.now) }
 {
     match (from, own) {
         (None, None) => None,
-        (Some(from), None) => Some(from.then(&Affine::identity())),
-        (None, Some(own)) => Some(Affine::identity().then(own)),
+        (Some(from), None) => Some(unchanged(from)),
+        (None, Some(own)) => Some(unchanged(own)),
         (Some(from), Some(own)) => Some(from.then(own)),
     }
 }
@@ -108,15 +108,14 @@ fn moved_by(error: u64, by: &Option<Affine>) -> u64
 }
 
 /// A tile and the address of its content, where it has one.
-fn read_tile<'a>(from: &HandedOn, members: &'a JsonObject) -> Option<(ReadTile, Option<&'a str>)>
-    ensures { option_map written_seen result ≡ written_tile (handed_of from.now) (pairs_of members.now) }
+fn read_tile<'a>(from: &HandedOn, own: &TileMembers<'a>) -> Option<(ReadTile, Option<&'a str>)>
+    ensures { option_map written_seen result ≡ written_tile (handed_of from.now) (values_seen own.now) }
 {
-    let volume = volume_of(members.last("boundingVolume")?)?;
-    let error = error_of(members.last("geometricError")?)?;
-    let uri = own_uri(members.last("content"))?;
-    let own = own_transform(members.last("transform"))?;
-    let refine = own_refinement(members.last("refine"), from.refine)?;
-    let transform = computed(&from.transform, &own);
+    let volume = volume_of(own.bounding_volume?)?;
+    let error = error_of(own.geometric_error?)?;
+    let uri = own_uri(own.content)?;
+    let transform = computed(&from.transform, &own_transform(own.transform)?);
+    let refine = own_refinement(own.refine, from.refine)?;
     let tile = ReadTile {
         volume: moved(&volume, &transform),
         error: moved_by(error, &transform),
@@ -126,10 +125,10 @@ fn read_tile<'a>(from: &HandedOn, members: &'a JsonObject) -> Option<(ReadTile, 
 }
 
 /// The children of a tile, none where it has no such member.
-fn children_of(members: &JsonObject) -> Option<&[Json]>
-    ensures { option_map (λ cs. map value_of cs.now) result ≡ child_values (last_of (codes "children") (pairs_of members.now)) }
+fn children_of(value: Option<&Json>) -> Option<&[Json]>
+    ensures { option_map (λ cs. map value_of cs.now) result ≡ child_values (option_map (λ v. value_of v.now) value.entry) }
 {
-    match members.last("children") {
+    match value {
         None => Some(&[]),
         Some(children) => items_of(children),
     }
@@ -142,13 +141,10 @@ pub fn parts_of<'a>(
 ) -> Option<(ReadTile, Option<&'a str>, &'a [Json])>
     ensures { option_map parts_seen result ≡ parts_of (handed_of from.now) (value_of tile.now) }
 {
-    let members = members_of(tile)?;
-    if !has_only(&TILE_NAMES, members) {
-        return None;
-    }
-    let Some((own, uri)) = read_tile(from, members) else {
+    let own = tile_members(members_of(tile)?)?;
+    let Some((read, uri)) = read_tile(from, &own) else {
         return None;
     };
-    let children = children_of(members)?;
-    Some((own, uri, children))
+    let children = children_of(own.children)?;
+    Some((read, uri, children))
 }

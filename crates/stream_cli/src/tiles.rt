@@ -19,14 +19,12 @@ use std::alloc::{AllocError, Global};
 const TILE_LIMIT: usize = 65535;
 
 /// The name of a child: its parent's, and its place among the children from 0.
-fn child_name(alloc: Global, name: &str, place: usize) -> Result<Text, AllocError>
+fn child_name(alloc: Global, name: &Text, place: usize) -> Result<Text, AllocError>
     ensures { IfOk result (λ t. t ≡ child_name name.now place) }
 {
     let mut digits = Buffer::new();
-    let mut text = String::from_str(alloc, name)?;
-    text.push_str("/")?;
-    text.push_str(digits.format(place))?;
-    Text::new(alloc, text.as_str())
+    name.followed_by(alloc, "/")?
+        .followed_by(alloc, digits.format(place))
 }
 
 /// Puts the children of a tile behind all that waits.
@@ -43,7 +41,7 @@ fn push_children<'a>(
 {
     for (place, tile) in children.iter().enumerate() {
         waiting.push(Waiting {
-            name: child_name(alloc, name.as_str(), place)?,
+            name: child_name(alloc, name, place)?,
             from: *from,
             tile,
         })?;
