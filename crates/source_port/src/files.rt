@@ -1,4 +1,6 @@
-ghost use Rattle.std.specs.Prelude.{◌≡◌, ◌≢◌, ◌≤◌, ◌<◌, ◌==◌, None, OnOk, OnErr, IfOk, length, option_map};
+ghost use Rattle.std.specs.Prelude.{◌≡◌, ◌≢◌, ◌≤◌, ◌<◌, ◌==◌, ◌↔◌};
+ghost use Rattle.std.specs.Prelude.{None, OnOk, OnErr, IfOk, IfSome, length, option_map};
+ghost use Rattle.std.specs.IoError.{error_kind};
 ghost use Rattle.std.specs.List.{before_first, list_all};
 ghost use Rattle.source_port.specs.Faults.{HasRisen};
 ghost use Rattle.source_port.specs.Library.{HasBytes, Lacks, PassesLimit};
@@ -7,13 +9,11 @@ ghost use Rattle.source_port.specs.Paths.{is_unreserved, is_name, is_path, path_
 
 use crate::source::{FetchError, LibraryName, Source};
 use std::alloc::{AllocError, Global};
+use std::fs::OpenFile;
 use std::io::{ErrorKind, Read};
 use std::marker::Model;
 use std::rt::Files;
 use std::{fs, io};
-
-/// How many bytes are read at a time.
-const PIECE: usize = 16384;
 
 /// The files below the current folder, at addresses that begin with `http://tiles/`. The query and the
 /// fragment of an address aren't looked at. A path that leaves the folder, has an empty segment or a byte
@@ -142,40 +142,51 @@ fn is_unreserved(byte: u8) -> bool
 fn read_file<R: Files>(rt: &R, alloc: Global, path: &str, limit: u32) -> Result<Vec<u8>, FetchError>
     ensures { IfOk result (λ bytes. length bytes.items ≤ limit) }
 {
-    let mut file = match fs::open(rt, path) {
+    let file = match fs::open(rt, path) {
         Ok(file) => file,
         Err(error) => return Err(cause_of(&error)),
     };
-    let mut bytes = Vec::new(alloc);
-    let mut piece = [0; PIECE];
-    for _ in 0..u64::MAX {
-        match file.read(&mut piece) {
-            Ok(0) => return Ok(bytes),
-            Ok(count) => push_within(&mut bytes, &piece[..count], limit)?,
-            Err(error) if error.kind() == ErrorKind::Interrupted => {}
-            Err(error) => return Err(cause_of(&error)),
-        }
-    }
-    Err(FetchError::Failed)
+    let expected = file.metadata().map_or(0, |metadata| metadata.len());
+    read_within(file, alloc, expected, limit)
 }
 
-fn cause_of(error: &io::Error) -> FetchError {
+/// All that the reader has left, at most `limit` bytes of it. There is room from the start for as many bytes
+/// as are expected; how many come doesn't depend on that.
+pub(crate) fn read_within<R: Read + Drop>(
+    reader: R,
+    alloc: Global,
+    expected: u64,
+    limit: u32,
+) -> Result<Vec<u8>, FetchError>
+    ensures bytes { IfOk result (λ bytes. IfSome (R.remaining reader) (λ left. bytes.items ≡ left)) }
+    ensures within { IfOk result (λ bytes. length bytes.items ≤ limit) }
+    ensures too_long { result ≡ Err FetchError.TooLong
+        → IfSome (R.remaining reader) (λ left. limit < length left) }
+{
+    // One byte past the limit, and past what is expected, shows whether there are more.
+    let most = u64::from(limit) + 1;
+    let room = expected.saturating_add(1).min(most);
+    let Ok(mut bytes) = Vec::with_capacity(alloc, room as usize) else {
+        return Err(FetchError::OutOfMemory);
+    };
+    let mut front = reader.take(most);
+    if let Err(error) = front.read_to_end(&mut bytes) {
+        return Err(cause_of(&error));
+    }
+    if bytes.len() > limit as usize {
+        return Err(FetchError::TooLong);
+    }
+    Ok(bytes)
+}
+
+fn cause_of(error: &io::Error) -> FetchError
+    ensures missing { result ≡ FetchError.Missing ↔ (error_kind error.now ≡ ErrorKind.NotFound) }
+    ensures out_of_memory { result ≡ FetchError.OutOfMemory ↔ (error_kind error.now ≡ ErrorKind.OutOfMemory) }
+    ensures not_too_long { result ≢ FetchError.TooLong }
+{
     match error.kind() {
         ErrorKind::NotFound => FetchError::Missing,
         ErrorKind::OutOfMemory => FetchError::OutOfMemory,
         _ => FetchError::Failed,
     }
-}
-
-fn push_within(bytes: &mut Vec<u8>, piece: &[u8], limit: u32) -> Result<(), FetchError>
-    requires { length bytes.old.items ≤ limit }
-    ensures { length bytes.new.items ≤ limit }
-{
-    if piece.len() > limit as usize - bytes.len() {
-        return Err(FetchError::TooLong);
-    }
-    if bytes.extend_from_slice(piece).is_err() {
-        return Err(FetchError::OutOfMemory);
-    }
-    Ok(())
 }

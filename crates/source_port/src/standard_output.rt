@@ -7,7 +7,7 @@ ghost use Rattle.source_port.specs.Written.{AppendsPrefix};
 use crate::sink::{PutError, Sink};
 use std::alloc::Global;
 use std::io;
-use std::io::{ErrorKind, Write};
+use std::io::Write;
 use std::marker::Model;
 
 /// Standard output. It doesn't tell what was written.
@@ -46,6 +46,7 @@ impl<R: Print + Drop> Sink for StdSink<R> {
     fn put(&mut self, _alloc: Global, piece: &[u8]) -> Result<(), PutError>
         ensures counted { result ≡ Err PutError.SinkFailed → self.new ≡ next_count self.old }
         ensures uncounted { result ≢ Err PutError.SinkFailed → self.new ≡ self.old }
+        ensures needs_no_memory { result ≢ Err PutError.OutOfMemory }
 
         // What every sink ensures.
         ensures bytes { OnOk result (Appends None None piece.now) }
@@ -54,34 +55,16 @@ impl<R: Print + Drop> Sink for StdSink<R> {
         ensures unwritten { result ≡ Err PutError.OutOfMemory → Keeps None None }
         ensures never_falls { self.old ≤ self.new }
     {
-        match print_all(&self.rt, piece) {
+        match io::writer(&self.rt).write_all(piece) {
             Ok(()) => Ok(()),
-            Err(PutError::SinkFailed) => {
+            Err(_) => {
                 self.faults = self.faults.saturating_add(1);
                 Err(PutError::SinkFailed)
             }
-            Err(PutError::OutOfMemory) => Err(PutError::OutOfMemory),
         }
     }
 
     fn faults(&self) -> u64 {
         self.faults
     }
-}
-
-/// Writes the whole piece. A write that takes nothing is a fault.
-fn print_all<R: Print>(rt: &R, piece: &[u8]) -> Result<(), PutError> {
-    let mut rest = piece;
-    for _ in 0..u64::MAX {
-        if rest.is_empty() {
-            return Ok(());
-        }
-        match io::writer(rt).write(rest) {
-            Ok(0) => return Err(PutError::SinkFailed),
-            Ok(count) => rest = &rest[count..],
-            Err(error) if error.kind() == ErrorKind::Interrupted => {}
-            Err(_) => return Err(PutError::SinkFailed),
-        }
-    }
-    Err(PutError::SinkFailed)
 }

@@ -1,4 +1,5 @@
 use super::*;
+use crate::files::read_within;
 use bytes::Bytes;
 use std::alloc::{AllocError, Global};
 use std::test::Fail;
@@ -147,5 +148,17 @@ fn no_path_leaves_the_folder(rt: HostRuntime) -> Result<(), Fail> {
         );
     }
     assert_eq!(rt; source.fork(alloc)?.faults(), 0);
+    Ok(())
+}
+
+#[test]
+fn a_reader_is_read_whole(rt: HostRuntime) -> Result<(), Fail> {
+    let alloc = rt.alloc();
+    for expected in [0, 5, 9] {
+        let read = read_within(b"hello".as_slice(), alloc, expected, 5);
+        assert!(rt; read.is_ok_and(|bytes| bytes.as_slice() == b"hello".as_slice()));
+        let refused = read_within(b"hello".as_slice(), alloc, expected, 4);
+        assert_eq!(rt; refused.err(), Some(FetchError::TooLong));
+    }
     Ok(())
 }
