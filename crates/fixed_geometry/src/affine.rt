@@ -132,6 +132,7 @@ impl Affine {
     }
 
     /// Where the map moves a point, in millimetres.
+    #[inline]
     pub fn apply(&self, p: Point) -> Point
         requires { IsWithin coordinate_limit p }
         ensures value { result ≡ maps.apply self.now p }
@@ -144,6 +145,7 @@ impl Affine {
     }
 
     /// The same for rows of any entries.
+    #[inline(never)]
     fn apply_rows(&self, p: Point) -> Point
         requires { IsWithin coordinate_limit p }
         ensures value { result ≡ maps.apply self.now p }
@@ -157,6 +159,7 @@ impl Affine {
     }
 
     /// What the map makes of a vector, in millimetres: no shift changes it.
+    #[inline]
     pub fn apply_vector(&self, v: Point) -> Point
         requires { IsWithin coordinate_limit v }
         ensures value { result ≡ maps.apply_vector self.now v }
@@ -165,6 +168,16 @@ impl Affine {
         if self.only_shifts {
             return v;
         }
+        self.apply_rows_to_vector(v)
+    }
+
+    /// The same for rows of any entries.
+    #[inline(never)]
+    fn apply_rows_to_vector(&self, v: Point) -> Point
+        requires { IsWithin coordinate_limit v }
+        ensures value { result ≡ maps.apply_vector self.now v }
+        ensures within { IsWithin coordinate_limit result }
+    {
         Point {
             x: vector_part(self.x, v),
             y: vector_part(self.y, v),
