@@ -18,6 +18,7 @@ use crate::planes::read_planes;
 use crate::points::point;
 use error_test::View;
 use fixed_geometry::Point;
+use source_port::Text;
 use std::alloc::{AllocError, Global};
 use volumes::Plane;
 
@@ -40,7 +41,15 @@ pub fn read_view(text: &str) -> Option<View>
 }
 
 /// The text of a view, in its one spelling.
-pub fn view_text(alloc: Global, view: &View) -> Result<String, AllocError>
+pub fn view_text(alloc: Global, view: &View) -> Result<Text, AllocError>
+    ensures value { IfOk result (λ text. text ≡ text_of_view view.now) }
+    ensures within { IfOk result (λ _. fault view.now ≡ None) }
+{
+    let text = written(alloc, view)?;
+    Text::new(alloc, text.as_str())
+}
+
+fn written(alloc: Global, view: &View) -> Result<String, AllocError>
     ensures value { IfOk result (λ text. string_bytes text ≡ text_of_view view.now) }
     ensures within { IfOk result (λ _. fault view.now ≡ None) }
 {

@@ -5,7 +5,7 @@ use Rattle.error_test.specs.Padding.{no_plane}
 use Rattle.session_script.specs.Ascii.{colon}
 use Rattle.session_script.specs.ViewTexts.{text_of_plane, text_of_view}
 use Rattle.session_script.proofs.ViewFields.{text_of_view-push, with_planes}
-use Rattle.session_script.proofs.view.view_text.Goals as goal
+use Rattle.session_script.proofs.view.written.Goals as goal
 
 pub loop-plane-preserved : goal.loop-plane-preserved
 loop-plane-preserved c =
