@@ -1,7 +1,6 @@
 -- Tiles that are still to be read.
 use Rattle.std.specs.Prelude.{◌≡◌, ℕ, ◌+◌, ◌<◌, ◌≤◌, Option, Some, None, option_map, List, [], ◌∷◌, ◌++◌, map, length, slice_get}
 use Rattle.std.specs.Borrow.{Bor}
-use Rattle.json_decimal.specs.declared.json.Json.{Json}
 use Rattle.stream_cli.specs.declared.node.TileNode.{TileNode}
 use Rattle.json_decimal.specs.JsonValue.{JsonValue}
 use Rattle.json_decimal.specs.View.{value_of}
@@ -29,15 +28,12 @@ abbrev pub handed_of : HandedOn → Inherited
 handed_of handed = record { transform = map_of handed.transform; refine = handed.refine }
 
 -- what was read of a tile, with the address of its content
-abbrev pub written_of : ReadTile → Option (Bor (List ℕ)) → Written
-written_of tile uri = record {
+abbrev pub written_of : ReadTile → Written
+written_of tile = record {
   facts = tile_facts tile.volume tile.error tile.handed.refine;
-  contents = contents_by (option_map (λ (u : Bor (List ℕ)). u.now) uri);
+  contents = contents_by (option_map (λ (u : Bor (List ℕ)). u.now) tile.uri);
   handed = handed_of tile.handed;
 }
-
-abbrev pub written_seen : ReadTile × Option (Bor (List ℕ)) → Written
-written_seen tile = written_of tile.0 tile.1
 
 -- the values of the children, or none where there is no such member
 abbrev pub child_values : Option JsonValue → Option (List JsonValue)
@@ -56,8 +52,8 @@ parts_by from own = written_tile from own >>= with_children own.children
 abbrev pub parts_of : Inherited → JsonValue → Option Parts
 parts_of from v = members_of v >>= tile_members >>= parts_by from
 
-abbrev pub parts_seen : ReadTile × Option (Bor (List ℕ)) × Bor (List Json) → Parts
-parts_seen parts = (written_of parts.0 parts.1, map value_of parts.2.now)
+abbrev pub parts_seen : ReadTile → Parts
+parts_seen tile = (written_of tile, map value_of tile.children.now)
 
 -- a tile's name, what it takes over from its parent, and its value
 pub record Entry : Type 0 where

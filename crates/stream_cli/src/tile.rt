@@ -5,13 +5,12 @@ ghost use Rattle.json_decimal.specs.View.{value_of};
 ghost use Rattle.fixed_geometry.specs.Maps.{after, identity};
 ghost use Rattle.volumes.specs.Limits.{IsInRange, error_limit};
 ghost use Rattle.volumes.specs.Moves.{moved, moved_error};
-ghost use Rattle.stream_cli.specs.Form.{contents_of, written_tile};
-ghost use Rattle.stream_cli.specs.Members.{values_seen};
+ghost use Rattle.stream_cli.specs.Form.{contents_of};
 ghost use Rattle.stream_cli.specs.Nodes.{contents_by};
-ghost use Rattle.stream_cli.specs.Waiting.{map_of, own_transform, own_refinement, handed_of, written_seen, child_values, parts_of, parts_seen};
+ghost use Rattle.stream_cli.specs.Waiting.{map_of, own_transform, own_refinement, handed_of, child_values, parts_of, parts_seen};
 
 use crate::members::{items_of, members_of};
-use crate::tile_members::{TileMembers, tile_members};
+use crate::tile_members::tile_members;
 use crate::waiting::{HandedOn, ReadTile};
 use crate::written::{error_of, refinement_of, transform_of, uri_of, volume_of};
 use fixed_geometry::Affine;
@@ -107,23 +106,6 @@ fn moved_by(error: u64, by: &Option<Affine>) -> u64
     }
 }
 
-/// A tile and the address of its content, where it has one.
-fn read_tile<'a>(from: &HandedOn, own: &TileMembers<'a>) -> Option<(ReadTile, Option<&'a str>)>
-    ensures { option_map written_seen result ≡ written_tile (handed_of from.now) (values_seen own.now) }
-{
-    let volume = volume_of(own.bounding_volume?)?;
-    let error = error_of(own.geometric_error?)?;
-    let uri = own_uri(own.content)?;
-    let transform = computed(&from.transform, &own_transform(own.transform)?);
-    let refine = own_refinement(own.refine, from.refine)?;
-    let tile = ReadTile {
-        volume: moved(&volume, &transform),
-        error: moved_by(error, &transform),
-        handed: HandedOn { transform, refine },
-    };
-    Some((tile, uri))
-}
-
 /// The children of a tile, none where it has no such member.
 fn children_of(value: Option<&Json>) -> Option<&[Json]>
     ensures { option_map (λ cs. map value_of cs.now) result ≡ child_values (option_map (λ v. value_of v.now) value.entry) }
@@ -134,17 +116,22 @@ fn children_of(value: Option<&Json>) -> Option<&[Json]>
     }
 }
 
-/// A tile, the address of its content, where it has one, and the values of its children.
-pub fn parts_of<'a>(
-    from: &HandedOn,
-    tile: &'a Json,
-) -> Option<(ReadTile, Option<&'a str>, &'a [Json])>
+/// What a tile says.
+pub fn read_tile<'a>(from: &HandedOn, tile: &'a Json) -> Option<ReadTile<'a>>
     ensures { option_map parts_seen result ≡ parts_of (handed_of from.now) (value_of tile.now) }
 {
     let own = tile_members(members_of(tile)?)?;
-    let Some((read, uri)) = read_tile(from, &own) else {
-        return None;
-    };
+    let volume = volume_of(own.bounding_volume?)?;
+    let error = error_of(own.geometric_error?)?;
+    let uri = own_uri(own.content)?;
+    let transform = computed(&from.transform, &own_transform(own.transform)?);
+    let refine = own_refinement(own.refine, from.refine)?;
     let children = children_of(own.children)?;
-    Some((read, uri, children))
+    Some(ReadTile {
+        volume: moved(&volume, &transform),
+        error: moved_by(error, &transform),
+        handed: HandedOn { transform, refine },
+        uri,
+        children,
+    })
 }

@@ -8,7 +8,7 @@ ghost use Rattle.stream_cli.specs.Waiting.{handed_of, entry_of, child_entries, R
 
 use crate::form::FormError;
 use crate::node::TileNode;
-use crate::tile::parts_of;
+use crate::tile::read_tile;
 use crate::waiting::{HandedOn, Waiting};
 use itoa::Buffer;
 use json_decimal::Json;
@@ -72,24 +72,22 @@ fn read_node<'a>(
 {
     let here = &waiting[at];
     let name = here.name.copy(alloc)?;
-    let from = here.from;
-    let tile = here.tile;
-    let Some((own, uri, children)) = parts_of(&from, tile) else {
+    let Some(own) = read_tile(&here.from, here.tile) else {
         return Err(FormError::NotYet);
     };
-    if children.len() > TILE_LIMIT - waiting.len() {
+    if own.children.len() > TILE_LIMIT - waiting.len() {
         return Err(FormError::NotYet);
     }
     let skip = waiting.len() - at - 1;
-    push_children(alloc, waiting, &name, &own.handed, children)?;
+    push_children(alloc, waiting, &name, &own.handed, own.children)?;
     Ok(TileNode {
         name,
         volume: own.volume,
         error: own.error,
         refine: own.handed.refine,
-        content: content_of(alloc, uri)?,
+        content: content_of(alloc, own.uri)?,
         skip: skip as u32,
-        count: children.len() as u32,
+        count: own.children.len() as u32,
     })
 }
 

@@ -22,15 +22,18 @@ pub struct Waiting<'a> {
     pub tile: &'a Json,
 }
 
-/// A tile without its content and its children.
+/// What a tile of a document says, with its children still to be read.
 #[derive(Clone, Copy)]
-pub struct ReadTile {
+pub struct ReadTile<'a> {
     /// The bounding volume under the computed transform, in millimetres.
     pub volume: Volume,
     /// The geometric error under the computed transform, in micrometres.
     pub error: u64,
     /// What its children take over.
     pub handed: HandedOn,
+    /// The address of its content, where it has one.
+    pub uri: Option<&'a str>,
+    pub children: &'a [Json],
     ghost volume_in_range: { IsInRange volume },
     ghost error_in_range: { error ≤ error_limit },
 }
