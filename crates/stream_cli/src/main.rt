@@ -2,6 +2,9 @@
 //! standard output.
 #![tactic(auto)]
 
+ghost use Rattle.std.specs.Prelude.{◌≡◌, ◌⊎◌, IfErr, IfOk};
+ghost use Rattle.stream_cli.specs.Causes.{status_of};
+
 mod cause;
 mod document;
 mod ended;
@@ -41,7 +44,10 @@ fn main(rt: HostRuntime) -> ExitCode {
 }
 
 /// Runs the words behind the program's name. A word that isn't UTF-8 is none of a command.
-fn run_words<R: Runtime + AllocGlobal + Threads + Sync>(rt: &R) -> Result<Ended, Cause> {
+fn run_words<R: Runtime + AllocGlobal + Threads + Sync>(rt: &R) -> Result<Ended, Cause>
+    ensures status { IfOk result (λ ended. ended.status ≡ status_of ended.cause) }
+    ensures refused { IfErr result (λ cause. (cause ≡ Cause.Words) ⊎ (cause ≡ Cause.Memory)) }
+{
     let arguments = match env::args(rt) {
         Ok(arguments) => arguments,
         Err(error) if error.kind() == ErrorKind::OutOfMemory => return Err(Cause::Memory),
