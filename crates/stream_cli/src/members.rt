@@ -77,8 +77,8 @@ fn put<'a>(
     Some(())
 }
 
-/// Puts the value of each member at the place of its name among the names, where nothing stands yet. Nothing where a
-/// member has a name that isn't listed, or where one of these comes twice.
+/// Puts the value of each member at the place of its name among the names, where nothing stands yet.
+/// Nothing where a member has a name that isn't listed, or where one of these comes twice.
 pub fn put_named<'a>(
     names: &[&'static str],
     values: &mut [Option<&'a Json>],

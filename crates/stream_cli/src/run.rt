@@ -78,7 +78,8 @@ fn fetch_root<S: Source>(alloc: Global, root: &str, source: &mut S) -> Result<Ve
         HasBytes (S.library source.old) (root_address root.now) bytes.items) }
     ensures within { IfOk result (λ bytes. length bytes.items ≤ document_limit) }
     ensures refused { IfErr result
-        (IsFetchCause (S.library source.old) (root_address root.now) (S.faults source.old) (S.faults source.new)) }
+        (IsFetchCause (S.library source.old) (root_address root.now)
+        (S.faults source.old) (S.faults source.new)) }
     ensures library { S.library source.new ≡ S.library source.old }
 {
     let mut address = String::from_str(alloc, "http://tiles/")?;

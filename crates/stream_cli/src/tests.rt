@@ -39,8 +39,8 @@ const TWO_CHILDREN: [&str; 7] = [
     r#"0,"content":{"uri":"c.glb"}}]}}"#,
 ];
 
-/// Documents that aren't read: a byte too few, a member twice, a member of another name, no error, and a box of four
-/// numbers.
+/// Documents that aren't read: a byte too few, a member twice, a member of another name, no error, and a
+/// box of four numbers.
 const CUT_OFF: [&str; 3] = [TOP, TILE, r#"1,"content":{"uri":"a.glb"}}"#];
 
 const TWICE: [&str; 3] = [TOP, TILE, r#"1,"refine":"ADD","refine":"ADD"}}"#];

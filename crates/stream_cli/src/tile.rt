@@ -6,8 +6,10 @@ ghost use Rattle.fixed_geometry.specs.Maps.{after, identity};
 ghost use Rattle.volumes.specs.Limits.{IsInRange, error_limit};
 ghost use Rattle.volumes.specs.Moves.{moved, moved_error};
 ghost use Rattle.stream_cli.specs.Form.{contents_of};
+ghost use Rattle.stream_cli.specs.Members.{value_seen};
 ghost use Rattle.stream_cli.specs.Nodes.{contents_by};
-ghost use Rattle.stream_cli.specs.Waiting.{map_of, own_transform, own_refinement, handed_of, child_values, parts_of, parts_seen};
+ghost use Rattle.stream_cli.specs.Waiting.{map_of, own_transform, own_refinement, handed_of};
+ghost use Rattle.stream_cli.specs.Waiting.{child_values, parts_of, parts_seen};
 
 use crate::members::{items_of, members_of};
 use crate::tile_members::tile_members;
@@ -20,7 +22,7 @@ use volumes::{Volume, moved_error};
 
 /// The transform of a tile, which stands for the identity where there is none.
 fn own_transform(value: Option<&Json>) -> Option<Option<Affine>>
-    ensures { option_map map_of result ≡ own_transform (option_map (λ v. value_of v.now) value.entry) }
+    ensures { option_map map_of result ≡ own_transform (value_seen value.entry) }
 {
     match value {
         None => Some(None),
@@ -29,7 +31,7 @@ fn own_transform(value: Option<&Json>) -> Option<Option<Affine>>
 }
 
 fn own_refinement(value: Option<&Json>, from: Refine) -> Option<Refine>
-    ensures { result ≡ own_refinement from (option_map (λ v. value_of v.now) value.entry) }
+    ensures { result ≡ own_refinement from (value_seen value.entry) }
 {
     match value {
         None => Some(from),
@@ -38,7 +40,8 @@ fn own_refinement(value: Option<&Json>, from: Refine) -> Option<Refine>
 }
 
 fn own_uri(value: Option<&Json>) -> Option<Option<&str>>
-    ensures { option_map (λ uri. contents_by (option_map (λ u. u.now) uri)) result ≡ contents_of (option_map (λ v. value_of v.now) value.entry) }
+    ensures { option_map (λ uri. contents_by (option_map (λ u. u.now) uri)) result
+        ≡ contents_of (value_seen value.entry) }
 {
     match value {
         None => Some(None),
@@ -108,7 +111,7 @@ fn moved_by(error: u64, by: &Option<Affine>) -> u64
 
 /// The children of a tile, none where it has no such member.
 fn children_of(value: Option<&Json>) -> Option<&[Json]>
-    ensures { option_map (λ cs. map value_of cs.now) result ≡ child_values (option_map (λ v. value_of v.now) value.entry) }
+    ensures { option_map (λ cs. map value_of cs.now) result ≡ child_values (value_seen value.entry) }
 {
     match value {
         None => Some(&[]),

@@ -1,12 +1,12 @@
 //! What the members of a tile say (OGC 22-025r4, "Tiles").
 
-ghost use Rattle.std.specs.Prelude.{◌≡◌, ◌≤◌, ◌≤ℤ◌, pos, ℕ, map, option_map, string_bytes, IfSome, List, [], ◌∷◌, None, unsigned_abs, length};
+ghost use Rattle.std.specs.Prelude.{◌≡◌, ◌≤◌, ◌≤ℤ◌, pos, map, option_map, IfSome, unsigned_abs, length};
 ghost use Rattle.json_decimal.specs.View.{value_of};
-ghost use Rattle.fixed_geometry.specs.Points.{IsWithin};
-ghost use Rattle.fixed_geometry.specs.Points.{coordinate_limit};
+ghost use Rattle.fixed_geometry.specs.Points.{IsWithin, coordinate_limit};
 ghost use Rattle.volumes.specs.Limits.{IsInRange, error_limit};
-ghost use Rattle.stream_cli.specs.Form.{coordinate, radius, error_of, point_of, sphere_of, first_point, box_of, sphere_in};
-ghost use Rattle.stream_cli.specs.Form.{box_in, volume_of, is_external, uri_of, sixteen_of, transform_of, refinement_of};
+ghost use Rattle.stream_cli.specs.Form.{coordinate, radius, error_of, point_of, first_point};
+ghost use Rattle.stream_cli.specs.Form.{sphere_of, box_of, sphere_in, box_in, volume_of};
+ghost use Rattle.stream_cli.specs.Form.{is_external, uri_of, sixteen_of, transform_of, refinement_of};
 
 use crate::members::{items_of, number_of, only_member, text_of};
 use fixed_geometry::{Affine, Point, Sixteen, scaled, scaled_held};
@@ -81,7 +81,8 @@ fn sphere_of(values: &[Json]) -> Option<Volume>
 
 /// The point of the first three numbers, and the values behind them.
 fn first_point(values: &[Json]) -> Option<(Point, &[Json])>
-    ensures value { option_map (λ p. (p.0, map value_of p.1.now)) result ≡ first_point (map value_of values.now) }
+    ensures value { option_map (λ p. (p.0, map value_of p.1.now)) result
+        ≡ first_point (map value_of values.now) }
     ensures within { IfSome result (λ p. IsWithin coordinate_limit p.0) }
 {
     match values {
