@@ -1,5 +1,6 @@
--- A view has no fault exactly where each part is within its limits.
-use Rattle.std.proofs.Common.{◌≡◌, ℕ, ◌≤◌, Bool, true, false, ◌&&◌, not, eqb, leb, Some, None, arith, refl, get_or, length, unsigned_abs, if◌then◌else◌}
+-- No field of a view is past its limits exactly where each part is within them.
+use Rattle.std.proofs.Common.{◌≡◌, ℕ, ◌≤◌, Bool, true, false, ◌&&◌, not, eqb, leb, Some, None}
+use Rattle.std.proofs.Common.{arith, refl, get_or, length, unsigned_abs, if◌then◌else◌}
 use Rattle.std.proofs.lemmas.Bool.Decides.{nat_tests}
 use Rattle.std.proofs.lemmas.List.Sums.{AllPass-from_list_all, list_all-from_AllPass}
 use Rattle.std.specs.List.{list_all}
@@ -9,7 +10,9 @@ use Rattle.volumes.specs.declared.plane.Plane.{Plane}
 use Rattle.volumes.specs.Limits.{IsPlaneInRange, normal_limit, offset_limit}
 use Rattle.error_test.specs.declared.view.Field.{Field}
 use Rattle.error_test.specs.declared.view.Field.TheVariants.{Height, Tangent, Allowed, Eye, Planes}
-use Rattle.error_test.specs.Views.{ViewParts, IsViewInRange, IsCounted, HasNormal, fault, is_counted, is_within, is_bounding, height_limit, tangent_limit, allowed_limit, plane_limit}
+use Rattle.error_test.specs.Views.{ViewParts, IsViewInRange, IsCounted, HasNormal, field_past_limit}
+use Rattle.error_test.specs.Views.{is_counted, is_within, is_bounding, height_limit, tangent_limit}
+use Rattle.error_test.specs.Views.{allowed_limit, plane_limit}
 
 -- ---- the tests and the facts that they decide
 
@@ -20,7 +23,12 @@ is_counted-true : (limit n : ℕ) → IsCounted limit n → is_counted limit n �
 is_counted-true limit n h = let from = h.from in let to = h.to in grind (arith, nat_tests)
 
 within : (limit : ℕ) (p : Point) → is_within limit p ≡ true → IsWithin limit p
-within limit p h = record { x = grind (arith, nat_tests); y = grind (arith, nat_tests); z = grind (arith, nat_tests) }
+within limit p h = record {
+  x = grind (arith, nat_tests);
+  y = grind (arith, nat_tests);
+  z =
+      grind (arith, nat_tests);
+}
 
 is_within-true : (limit : ℕ) (p : Point) → IsWithin limit p → is_within limit p ≡ true
 is_within-true limit p h = let x = h.x in let y = h.y in let z = h.z in grind (arith, nat_tests)
@@ -37,11 +45,16 @@ three false b c h = absurd (cc)
 
 bounding : (p : Plane) → is_bounding p ≡ true → IsBounding p
 bounding p h =
-    let parts = three (is_within normal_limit p.n) (not (eqb (norm p.n) 0)) (leb (unsigned_abs p.d) offset_limit) h in
+    let parts = three (is_within normal_limit p.n) (not (eqb (norm p.n) 0))
+    (leb (unsigned_abs p.d) offset_limit) h in
     let normal : not (eqb (norm p.n) 0) ≡ true = parts.1 in
     let offset : leb (unsigned_abs p.d) offset_limit ≡ true = parts.2 in
     record {
-      in_range = record { normal = within normal_limit p.n parts.0; offset = grind (arith, nat_tests) };
+      in_range = record {
+        normal = within normal_limit p.n parts.0;
+        offset =
+            grind (arith, nat_tests);
+      };
       normal = grind (arith, nat_tests);
     }
 
@@ -58,7 +71,11 @@ both false b h = absurd (cc)
 
 -- ---- the five tests of a view, none of which failed
 
-chosen : (a b c d e : Bool) (s t u v w : Field) → (if not a then Some s else (if not b then Some t else (if not c then Some u else (if not d then Some v else (if not e then Some w else None))))) ≡ None → (a ≡ true) × (b ≡ true) × (c ≡ true) × (d ≡ true) × (e ≡ true)
+chosen : (a b c d e : Bool) (s t u v w : Field)
+    → (if not a then Some s else
+    (if not b then Some t else
+    (if not c then Some u else (if not d then Some v else (if not e then Some w else None)))))
+    ≡ None → (a ≡ true) × (b ≡ true) × (c ≡ true) × (d ≡ true) × (e ≡ true)
 chosen true true true true true s t u v w h = (refl, refl, refl, refl, refl)
 chosen true true true true false s t u v w h = absurd (cc)
 chosen true true true false e s t u v w h = absurd (cc)
@@ -66,9 +83,13 @@ chosen true true false d e s t u v w h = absurd (cc)
 chosen true false c d e s t u v w h = absurd (cc)
 chosen false b c d e s t u v w h = absurd (cc)
 
-pub in_range : (v : ViewParts) → fault v ≡ None → IsViewInRange v
+pub in_range : (v : ViewParts) → field_past_limit v ≡ None → IsViewInRange v
 in_range v h =
-    let c = chosen (is_counted height_limit v.height) (is_counted tangent_limit v.tan_over && is_counted tangent_limit v.tan_under) (is_counted allowed_limit v.allowed) (is_within coordinate_limit v.eye) (leb (length v.planes) plane_limit && list_all is_bounding v.planes) Height Tangent Allowed Eye Planes h in
+    let c = chosen (is_counted height_limit v.height)
+    (is_counted tangent_limit v.tan_over && is_counted tangent_limit v.tan_under)
+    (is_counted allowed_limit v.allowed) (is_within coordinate_limit v.eye)
+    (leb (length v.planes) plane_limit && list_all is_bounding v.planes)
+    Height Tangent Allowed Eye Planes h in
     let t = both (is_counted tangent_limit v.tan_over) (is_counted tangent_limit v.tan_under) c.1 in
     let p = both (leb (length v.planes) plane_limit) (list_all is_bounding v.planes) c.4 in
     let few : leb (length v.planes) plane_limit ≡ true = p.0 in
@@ -84,16 +105,30 @@ in_range v h =
       normals = λ k d g. (bounding (get_or v.planes k d) (all k d g)).normal;
     }
 
-all_five : (a b c d e : Bool) (s t u v w : Field) → a ≡ true → b ≡ true → c ≡ true → d ≡ true → e ≡ true → (if not a then Some s else (if not b then Some t else (if not c then Some u else (if not d then Some v else (if not e then Some w else None))))) ≡ None
+all_five : (a b c d e : Bool) (s t u v w : Field) → a ≡ true → b ≡ true → c ≡ true → d ≡ true
+    → e ≡ true → (if not a then Some s else
+    (if not b then Some t else
+    (if not c then Some u else (if not d then Some v else (if not e then Some w else None)))))
+    ≡ None
 all_five a b c d e s t u v w ha hb hc hd he = rw (ha, hb, hc, hd, he) refl
 
-pub no_fault : (v : ViewParts) → IsViewInRange v → fault v ≡ None
-no_fault v h =
+pub none_past_limit : (v : ViewParts) → IsViewInRange v → field_past_limit v ≡ None
+none_past_limit v h =
     let height = is_counted-true height_limit v.height h.height in
-    let over : is_counted tangent_limit v.tan_over ≡ true = is_counted-true tangent_limit v.tan_over h.tan_over in
-    let under : is_counted tangent_limit v.tan_under ≡ true = is_counted-true tangent_limit v.tan_under h.tan_under in
+    let over : is_counted tangent_limit v.tan_over ≡ true =
+    is_counted-true tangent_limit v.tan_over h.tan_over in
+    let under : is_counted tangent_limit v.tan_under ≡ true =
+    is_counted-true tangent_limit v.tan_under h.tan_under in
     let allowed = is_counted-true allowed_limit v.allowed h.allowed in
     let eye = is_within-true coordinate_limit v.eye h.eye in
-    let few : leb (length v.planes) plane_limit ≡ true = let count = h.plane_count in grind (arith, nat_tests) in
-    let all : list_all is_bounding v.planes ≡ true = list_all-from_AllPass is_bounding v.planes (λ k d g. is_bounding-true (get_or v.planes k d) (h.planes k d g) (h.normals k d g)) in
-    all_five (is_counted height_limit v.height) (is_counted tangent_limit v.tan_over && is_counted tangent_limit v.tan_under) (is_counted allowed_limit v.allowed) (is_within coordinate_limit v.eye) (leb (length v.planes) plane_limit && list_all is_bounding v.planes) Height Tangent Allowed Eye Planes height (rw (over, under) refl) allowed eye (rw (few, all) refl)
+    let few : leb (length v.planes) plane_limit ≡ true = let count = h.plane_count in
+    grind (arith, nat_tests) in
+    let all : list_all is_bounding v.planes ≡ true =
+    list_all-from_AllPass is_bounding v.planes
+    (λ k d g. is_bounding-true (get_or v.planes k d) (h.planes k d g) (h.normals k d g)) in
+    all_five (is_counted height_limit v.height)
+    (is_counted tangent_limit v.tan_over && is_counted tangent_limit v.tan_under)
+    (is_counted allowed_limit v.allowed) (is_within coordinate_limit v.eye)
+    (leb (length v.planes) plane_limit && list_all is_bounding v.planes)
+    Height Tangent Allowed Eye Planes height (rw (over, under) refl) allowed eye
+    (rw (few, all) refl)

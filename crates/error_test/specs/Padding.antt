@@ -1,4 +1,4 @@
--- How a view keeps its planes in place: at the front of sixteen, with zeros behind them.
+-- How a view keeps its planes in place: as a prefix of sixteen, with zeros behind them.
 use Rattle.std.specs.Prelude.{◌≡◌, ℕ, ◌-◌, ◌≤◌, List, ◌++◌, length, take, replicate, pos}
 use Rattle.std.proofs.Common.{arith, ap, length-append}
 use Rattle.std.proofs.lemmas.List.{length-take, length-replicate}
@@ -20,6 +20,14 @@ pub record IsKept (count : ℕ) (planes : List Plane) (parts : ViewParts) : Type
   pub in_range : IsViewInRange parts
 
 -- such a view keeps as many planes as it counts
-pub length-kept : (count : ℕ) (planes : List Plane) → count ≤ plane_limit → padded (take count planes) ≡ planes → length (take count planes) ≡ count
+pub length-kept : (count : ℕ) (planes : List Plane) → count ≤ plane_limit
+    → padded (take count planes) ≡ planes → length (take count planes) ≡ count
 length-kept count planes few rest =
-    omega (arith, length-take count planes, length-append (take count planes) (replicate (plane_limit - length (take count planes)) no_plane), length-replicate {A = Plane} (plane_limit - length (take count planes)) no_plane, ap length rest)
+    omega (
+      arith,
+      length-take count planes,
+      length-append (take count planes)
+          (replicate (plane_limit - length (take count planes)) no_plane),
+      length-replicate {A = Plane} (plane_limit - length (take count planes)) no_plane,
+      ap length rest,
+    )

@@ -3,11 +3,13 @@
 #![tactic(auto)]
 
 mod culling;
+mod limits;
 mod screen_error;
 #[cfg(test)]
 mod tests;
 mod view;
 
 pub use culling::culled;
+pub use limits::{ALLOWED_LIMIT, HEIGHT_LIMIT, PLANE_LIMIT, TANGENT_LIMIT};
 pub use screen_error::wants;
 pub use view::{Field, View, ViewError};

@@ -1,3 +1,5 @@
+//! Views, and spheres before them, at given places: each public call once.
+
 ghost use Rattle.std.specs.Prelude.{◌≡◌};
 ghost use Rattle.volumes.specs.Limits.{IsInRange};
 

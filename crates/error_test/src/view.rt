@@ -3,26 +3,13 @@
 ghost use Rattle.std.specs.Prelude.{◌≡◌, ◌*◌, ◌^◌, ◌<◌, ◌≤◌, ◌↔◌, length, take, IsOk, MatchOption};
 ghost use Rattle.std.specs.List.{list_all};
 ghost use Rattle.error_test.specs.Padding.{padded};
-ghost use Rattle.error_test.specs.Views.{IsViewInRange, fault, is_bounding, is_counted, is_within};
-ghost use Rattle.error_test.specs.Views.{plane_limit, view_parts};
+ghost use Rattle.error_test.specs.Views.{IsViewInRange, field_past_limit, is_bounding, is_counted};
+ghost use Rattle.error_test.specs.Views.{is_within, plane_limit, view_parts};
 
-use fixed_geometry::Point;
+use crate::limits::{ALLOWED_LIMIT, HEIGHT_LIMIT, PLANE_LIMIT, TANGENT_LIMIT};
+use fixed_geometry::{COORDINATE_LIMIT, Point};
 use std::marker::Model;
-use volumes::Plane;
-
-const HEIGHT_LIMIT: u32 = 1 << 16;
-
-const TANGENT_LIMIT: u32 = 1 << 20;
-
-const ALLOWED_LIMIT: u32 = 1 << 20;
-
-const PLANE_LIMIT: usize = 16;
-
-const COORDINATE_LIMIT: u64 = 1 << 36;
-
-const NORMAL_LIMIT: u64 = 1 << 20;
-
-const OFFSET_LIMIT: u64 = 1 << 57;
+use volumes::{NORMAL_LIMIT, OFFSET_LIMIT, Plane};
 
 /// The part of a view that is past its limits.
 #[derive(Clone, Copy, Debug, PartialEq, Eq)]
@@ -58,7 +45,7 @@ pub struct View {
     tan_under: u32,
     allowed: u32,
     plane_count: usize,
-    planes: [Plane; 16],
+    planes: [Plane; PLANE_LIMIT],
 }
 
 impl Model for View {
@@ -69,10 +56,13 @@ impl Model for View {
 
     ghost Value = { ViewParts };
 
-    ghost view = { λ v. view_parts v.eye v.height v.tan_over v.tan_under v.allowed (take v.plane_count v.planes) };
+    ghost view = { λ v.
+        view_parts v.eye v.height v.tan_over v.tan_under v.allowed
+        (take v.plane_count v.planes) };
 
     ghost invariant = { λ v. IsKept v.plane_count v.planes
-        (view_parts v.eye v.height v.tan_over v.tan_under v.allowed (take v.plane_count v.planes)) };
+        (view_parts v.eye v.height v.tan_over v.tan_under v.allowed
+        (take v.plane_count v.planes)) };
 
     ghost inverse = { λ p. record {
       eye = p.eye;
@@ -84,7 +74,8 @@ impl Model for View {
       planes = padded p.planes;
     } };
 
-    ghost inverse_ok = { λ a h. Prim.rw (h.rest, length-kept a.plane_count a.planes h.few h.rest) refl };
+    ghost inverse_ok = { λ a h.
+        Prim.rw (h.rest, length-kept a.plane_count a.planes h.few h.rest) refl };
 }
 
 impl View {
@@ -98,10 +89,13 @@ impl View {
         planes: &[Plane],
     ) -> Result<View, ViewError>
         ensures value { let asked = view_parts eye height tan_over tan_under allowed planes.now in
-            MatchOption (fault asked) (result ≡ Ok asked) (λ field. result ≡ Err (ViewError.Range field)) }
-        ensures within { IsOk result ↔ IsViewInRange (view_parts eye height tan_over tan_under allowed planes.now) }
+            MatchOption (field_past_limit asked)
+            (result ≡ Ok asked)
+            (λ field. result ≡ Err (ViewError.Range field)) }
+        ensures within { let asked = view_parts eye height tan_over tan_under allowed planes.now in
+            IsOk result ↔ IsViewInRange asked }
     {
-        if let Some(field) = fault(eye, height, tan_over, tan_under, allowed, planes) {
+        if let Some(field) = field_past_limit(eye, height, tan_over, tan_under, allowed, planes) {
             return Err(ViewError::Range { field });
         }
         Ok(View {
@@ -178,7 +172,7 @@ impl View {
 }
 
 /// The first part that is past its limits.
-fn fault(
+fn field_past_limit(
     eye: Point,
     height: u32,
     tan_over: u32,
@@ -186,7 +180,8 @@ fn fault(
     allowed: u32,
     planes: &[Plane],
 ) -> Option<Field>
-    ensures { result ≡ fault (view_parts eye height tan_over tan_under allowed planes.now) }
+    ensures { let asked = view_parts eye height tan_over tan_under allowed planes.now in
+        result ≡ field_past_limit asked }
 {
     if !is_counted(HEIGHT_LIMIT, height) {
         Some(Field::Height)
@@ -231,8 +226,8 @@ fn is_bounding(plane: &Plane) -> bool
         && plane.d.unsigned_abs() <= OFFSET_LIMIT
 }
 
-/// The planes, at the front of sixteen.
-fn padded(planes: &[Plane]) -> [Plane; 16]
+/// The planes as a prefix of as many as there may be, with zeros behind them.
+fn padded(planes: &[Plane]) -> [Plane; PLANE_LIMIT]
     requires { length planes.now ≤ plane_limit }
     ensures { result ≡ padded planes.now }
 {
@@ -240,7 +235,7 @@ fn padded(planes: &[Plane]) -> [Plane; 16]
         n: Point { x: 0, y: 0, z: 0 },
         d: 0,
     };
-    let mut held = [none; 16];
-    held[..planes.len()].copy_from_slice(planes);
-    held
+    let mut padded = [none; PLANE_LIMIT];
+    padded[..planes.len()].copy_from_slice(planes);
+    padded
 }

@@ -1,15 +1,18 @@
 -- Rounded quotients: their sizes, and those of powers of ten.
 use Rattle.std.proofs.Common.{◌≡◌, ℕ, ◌+◌, ◌-◌, ◌*◌, ◌/◌, ◌^◌, ◌<◌, ◌≤◌, arith, sym, ap, ◌∙◌, lit<}
-use Rattle.std.proofs.Math.Nat.{div-mul-le_self, mul-le-mul_left, mul_comm, mul_assoc, mul-div-mul_right, one-le-pow, div-le_self}
+use Rattle.std.proofs.Math.Nat.{div-mul-le_self, mul-le-mul_left, mul_comm, mul_assoc}
+use Rattle.std.proofs.Math.Nat.{mul-div-mul_right, one-le-pow, div-le_self}
 use Rattle.std.proofs.lemmas.Nat.{div_below, pow-add}
 use Rattle.fixed_geometry.specs.Quotient.{half_size}
 
 pub half_size_le : (n d : ℕ) → 0 < d → half_size n d ≤ n
 half_size_le n d h =
     let m : n * 1 ≤ n * d = mul-le-mul_left n h in
-    let e : (n + 1) * (2 * d) ≡ (n + 1) * d * 2 = ap (λ x. (n + 1) * x) (mul_comm 2 d) ∙ sym (mul_assoc (n + 1) d 2) in
+    let e : (n + 1) * (2 * d) ≡ (n + 1) * d * 2 =
+    ap (λ x. (n + 1) * x) (mul_comm 2 d) ∙ sym (mul_assoc (n + 1) d 2) in
     let small : 2 * n + d < (n + 1) * (2 * d) = omega arith in
-    let q : (2 * n + d) / (2 * d) < n + 1 = div_below (2 * n + d) (2 * d) (n + 1) (omega arith) small in
+    let q : (2 * n + d) / (2 * d) < n + 1 =
+    div_below (2 * n + d) (2 * d) (n + 1) (omega arith) small in
     omega arith
 
 pub half_size-at_most : (size n d : ℕ) → size ≡ half_size n d → 2 * (size * d) ≤ 2 * n + d
@@ -40,19 +43,23 @@ pub half_size_of_fewer : (v p f : ℕ) → f ≤ p → half_size (v * 10 ^ p) (1
 half_size_of_fewer v p f h =
     let e : p ≡ (p - f) + f = omega arith in
     let power : 10 ^ p ≡ 10 ^ (p - f) * 10 ^ f = ap (λ x. 10 ^ x) e ∙ pow-add 10 (p - f) f in
-    let top : v * 10 ^ p ≡ v * 10 ^ (p - f) * 10 ^ f = ap (λ x. v * x) power ∙ sym (mul_assoc v (10 ^ (p - f)) (10 ^ f)) in
+    let top : v * 10 ^ p ≡ v * 10 ^ (p - f) * 10 ^ f =
+    ap (λ x. v * x) power ∙ sym (mul_assoc v (10 ^ (p - f)) (10 ^ f)) in
     let under : 10 ^ f ≡ 1 * 10 ^ f = omega arith in
     ap (λ x. half_size x (10 ^ f)) top
     ∙ (ap (λ x. half_size (v * 10 ^ (p - f) * 10 ^ f) x) under
-    ∙ (half_size_scaled (v * 10 ^ (p - f)) 1 (10 ^ f) (one-le-pow f 10 (lit< tt)) ∙ half_size_by_one (v * 10 ^ (p - f))))
+    ∙ (half_size_scaled (v * 10 ^ (p - f)) 1 (10 ^ f) (one-le-pow f 10 (lit< tt))
+    ∙ half_size_by_one (v * 10 ^ (p - f))))
 
 -- more places behind the point than are kept
-pub half_size_of_more : (v p f : ℕ) → p < f → half_size (v * 10 ^ p) (10 ^ f) ≡ (v + 10 ^ (f - p) / 2) / 10 ^ (f - p)
+pub half_size_of_more : (v p f : ℕ) → p < f
+    → half_size (v * 10 ^ p) (10 ^ f) ≡ (v + 10 ^ (f - p) / 2) / 10 ^ (f - p)
 half_size_of_more v p f h =
     let e : f ≡ (f - p) + p = omega arith in
     let power : 10 ^ f ≡ 10 ^ (f - p) * 10 ^ p = ap (λ x. 10 ^ x) e ∙ pow-add 10 (f - p) p in
     let j : f - p ≡ 1 + (f - p - 1) = omega arith in
-    let tenfold : 10 ^ (f - p) ≡ 10 * 10 ^ (f - p - 1) = ap (λ x. 10 ^ x) j ∙ pow-add 10 1 (f - p - 1) in
+    let tenfold : 10 ^ (f - p) ≡ 10 * 10 ^ (f - p - 1) =
+    ap (λ x. 10 ^ x) j ∙ pow-add 10 1 (f - p - 1) in
     let even : 10 ^ (f - p) ≡ 2 * (10 ^ (f - p) / 2) = omega (arith, tenfold) in
     ap (λ x. half_size (v * 10 ^ p) x) power
     ∙ (half_size_scaled v (10 ^ (f - p)) (10 ^ p) (one-le-pow p 10 (lit< tt))

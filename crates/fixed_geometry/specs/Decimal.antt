@@ -1,18 +1,21 @@
--- The whole number nearest to a decimal times a power of ten. The decimal stands as a text, as RFC 8259, section 6,
--- spells numbers: the mantissa before the first e or E, and from there on the exponent. Each definition is of any bytes.
-use Rattle.std.specs.Prelude.{ℕ, ◌+◌, ◌-◌, ◌*◌, ◌^◌, List, Bool, ◌==◌, ◌||◌, nat_le, if◌then◌else◌, Option, Some, None, min, ◌≡◌, ℤ, pos, neg_ℤ, count_by, drop}
+-- The whole number nearest to a decimal times a power of ten. The decimal stands as a text, as
+-- RFC 8259, section 6, spells numbers: the mantissa before the first e or E, and from there on the
+-- exponent. Each definition is of any bytes.
+use Rattle.std.specs.Prelude.{ℕ, ◌+◌, ◌-◌, ◌*◌, ◌^◌, List, Bool, ◌==◌, ◌||◌, nat_le, if◌then◌else◌}
+use Rattle.std.specs.Prelude.{Option, Some, None, min, ◌≡◌, ℤ, pos, neg_ℤ, count_by, drop}
 use Rattle.std.specs.List.{fold, before_first, position_or_len, list_any}
 use Rattle.std.specs.Char.{is_ascii_digit}
+use Rattle.fixed_geometry.specs.declared.limits.TheConstants.{PLACES_LIMIT, SCALED_LIMIT}
 use Rattle.fixed_geometry.specs.Ascii.{digit_zero, minus_sign, decimal_point, small_e, capital_e}
 use Rattle.fixed_geometry.specs.Quotient.{half_size}
 
--- the most places behind the point that `scaled` keeps
+-- the most places behind the point to which a decimal is read
 abbrev pub places_limit : ℕ
-places_limit = 9
+places_limit = PLACES_LIMIT
 
--- the greatest limit that `scaled` holds a number to
-abbrev pub max_limit : ℕ
-max_limit = 2 ^ 60
+-- the greatest limit within which a decimal is read
+abbrev pub scaled_limit : ℕ
+scaled_limit = SCALED_LIMIT
 
 abbrev pub is_exponent_mark : ℕ → Bool
 is_exponent_mark b = b == small_e || b == capital_e
@@ -86,6 +89,6 @@ fixed_within t places max = if nat_le (fixed_size t places) max then Some (fixed
 abbrev pub SameUpTo : ℕ → ℕ → ℕ → Type 0
 SameUpTo ceiling m n = min m ceiling ≡ min n ceiling
 
--- the same, held at a limit in size
-abbrev pub held_fixed : List ℕ → ℕ → ℕ → ℤ
-held_fixed t places limit = with_sign (has_minus (mantissa t)) (min (fixed_size t places) limit)
+-- the same, clamped to a limit in size
+abbrev pub clamped_fixed : List ℕ → ℕ → ℕ → ℤ
+clamped_fixed t places limit = with_sign (has_minus (mantissa t)) (min (fixed_size t places) limit)

@@ -1,22 +1,24 @@
 -- Affine maps: three rows of three linear entries in 10^-9 parts, and a shift in millimetres.
-use Rattle.std.specs.Prelude.{ℕ, ◌*◌, ◌^◌, ◌≡◌, max, Bool, ◌&&◌, ℤ, pos, ◌+ℤ◌}
+use Rattle.std.specs.Prelude.{ℕ, ◌*◌, ◌≡◌, max, Bool, ◌&&◌, ℤ, pos, ◌+ℤ◌}
 use Rattle.std.specs.Ordering.{int_eq}
-use Rattle.fixed_geometry.specs.Quotient.{half, clamp, held_within}
+use Rattle.fixed_geometry.specs.Quotient.{half, clamp, clamped_within}
 use Rattle.fixed_geometry.specs.Root.{ceiling_root}
 use Rattle.fixed_geometry.specs.Points.{IsWithin, coordinate_limit, dot, norm}
+use Rattle.fixed_geometry.specs.Points.{x_components, y_components, z_components}
+use Rattle.fixed_geometry.specs.declared.limits.TheConstants.{LINEAR_LIMIT, PARTS}
 use Rattle.fixed_geometry.specs.declared.point.Point.{Point}
 
 -- the linear entry that stands for 1
 abbrev pub parts : ℕ
-parts = 10 ^ 9
+parts = PARTS
 
--- the greatest size of a linear entry, which stands for 2^20
+-- the greatest size of a linear entry
 abbrev pub linear_limit : ℕ
-linear_limit = 2 ^ 20 * parts
+linear_limit = LINEAR_LIMIT
 
 -- no column of three such entries is longer
 abbrev pub scale_limit : ℕ
-scale_limit = 2 ^ 21 * parts
+scale_limit = 2 * linear_limit
 
 pub record Map : Type 0 where
   pub x : Point
@@ -32,13 +34,13 @@ pub record IsBounded (m : Map) : Type 0 where
   pub shift : IsWithin coordinate_limit m.shift
 
 abbrev pub column_x : Map → Point
-column_x m = record { x = m.x.x; y = m.y.x; z = m.z.x }
+column_x m = x_components m.x m.y m.z
 
 abbrev pub column_y : Map → Point
-column_y m = record { x = m.x.y; y = m.y.y; z = m.z.y }
+column_y m = y_components m.x m.y m.z
 
 abbrev pub column_z : Map → Point
-column_z m = record { x = m.x.z; y = m.y.z; z = m.z.z }
+column_z m = z_components m.x m.y m.z
 
 -- the map that leaves each point where it is
 abbrev pub identity : Map
@@ -59,7 +61,11 @@ vector_part row v = clamp (half (dot row v) parts)
 
 -- where a map moves a point
 abbrev pub apply : Map → Point → Point
-apply m p = record { x = point_part m.x m.shift.x p; y = point_part m.y m.shift.y p; z = point_part m.z m.shift.z p }
+apply m p = record {
+  x = point_part m.x m.shift.x p;
+  y = point_part m.y m.shift.y p;
+  z = point_part m.z m.shift.z p;
+}
 
 -- what a map makes of a vector
 abbrev pub apply_vector : Map → Point → Point
@@ -67,10 +73,14 @@ apply_vector m v = record { x = vector_part m.x v; y = vector_part m.y v; z = ve
 
 -- one linear entry of a product: a row of the one map times a column of the other
 abbrev pub entry : Point → Point → ℤ
-entry row column = held_within linear_limit (half (dot row column) parts)
+entry row column = clamped_within linear_limit (half (dot row column) parts)
 
 abbrev pub row_after : Point → Map → Point
-row_after row own = record { x = entry row (column_x own); y = entry row (column_y own); z = entry row (column_z own) }
+row_after row own = record {
+  x = entry row (column_x own);
+  y = entry row (column_y own);
+  z = entry row (column_z own);
+}
 
 -- the map that applies `own` first, and then `parent`
 abbrev pub after : Map → Map → Map
@@ -94,7 +104,11 @@ only_shift x y z = is_row x identity.x && is_row y identity.y && is_row z identi
 
 -- a point shifted by a map that does nothing else
 abbrev pub shifted : Point → Point → Point
-shifted p shift = record { x = clamp (p.x +ℤ shift.x); y = clamp (p.y +ℤ shift.y); z = clamp (p.z +ℤ shift.z) }
+shifted p shift = record {
+  x = clamp (p.x +ℤ shift.x);
+  y = clamp (p.y +ℤ shift.y);
+  z = clamp (p.z +ℤ shift.z);
+}
 
 -- the map is within the limits, and this is what is kept with it
 pub record IsKept (m : Map) (scale : ℕ) (shifts : Bool) : Type 0 where

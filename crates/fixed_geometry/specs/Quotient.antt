@@ -1,11 +1,18 @@
 -- Quotients of whole numbers, rounded as the geometry rounds them.
-use Rattle.std.specs.Prelude.{ℕ, ◌+◌, ◌-◌, ◌*◌, ◌/◌, ◌^◌, ℤ, pos, negsuc, neg_ℤ, unsigned_abs}
+use Rattle.std.specs.Prelude.{ℕ, ◌+◌, ◌-◌, ◌*◌, ◌/◌, ◌≤◌, ◌<◌, ℤ, pos, negsuc, neg_ℤ, unsigned_abs}
 use Rattle.std.specs.Int.{int_max, int_min}
+use Rattle.fixed_geometry.specs.declared.limits.TheConstants.{OPERAND_LIMIT}
 use Rattle.fixed_geometry.specs.Points.{coordinate_limit}
 
 -- the greatest size of what `half` and `up` divide, and divide by
 abbrev pub operand_limit : ℕ
-operand_limit = 2 ^ 125
+operand_limit = OPERAND_LIMIT
+
+-- n can be divided by d with rounding
+pub record AreOperands (n : ℤ) (d : ℕ) : Type 0 where
+  pub n_to : unsigned_abs n ≤ operand_limit
+  pub d_from : 0 < d
+  pub d_to : d ≤ operand_limit
 
 -- n / d to the nearest whole number, a half upwards
 abbrev pub half_size : ℕ → ℕ → ℕ
@@ -29,9 +36,9 @@ abbrev pub up : ℤ → ℕ → ℤ
 up n d = signed_as n (up_size (unsigned_abs n) d)
 
 -- the number nearest to n that is at most `limit` in size
-abbrev pub held_within : ℕ → ℤ → ℤ
-held_within limit n = int_max (neg_ℤ (pos limit)) (int_min n (pos limit))
+abbrev pub clamped_within : ℕ → ℤ → ℤ
+clamped_within limit n = int_max (neg_ℤ (pos limit)) (int_min n (pos limit))
 
 -- the coordinate nearest to n
 abbrev pub clamp : ℤ → ℤ
-clamp n = held_within coordinate_limit n
+clamp n = clamped_within coordinate_limit n

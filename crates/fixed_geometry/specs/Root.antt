@@ -10,7 +10,9 @@ root_limit = 2 ^ 64
 unfoldable pub floor_root : ℕ → ℕ
 floor_root zero = 0
 floor_root (suc n) =
-    if nat_le ((floor_root n + 1) * (floor_root n + 1)) (suc n) then floor_root n + 1 else floor_root n
+    if nat_le ((floor_root n + 1) * (floor_root n + 1)) (suc n)
+    then floor_root n + 1
+    else floor_root n
 
 -- the least whole number whose square is at least n
 abbrev pub ceiling_root : ℕ → ℕ

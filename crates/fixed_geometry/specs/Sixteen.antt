@@ -1,5 +1,6 @@
 -- The sixteen numbers of a transform, in column-major order (OGC 22-025r4, `transform` of a tile).
-use Rattle.std.specs.Prelude.{ℕ, ℤ, pos, List, Bool, if◌then◌else◌, ◌&&◌, nat_le, nat_lt, Option, Some, None, Result, Ok, Err, slice_index_or}
+use Rattle.std.specs.Prelude.{ℕ, ℤ, pos, List, Bool, if◌then◌else◌, ◌&&◌, nat_le, nat_lt, Option}
+use Rattle.std.specs.Prelude.{Some, None, Result, Ok, Err, slice_index_or, ◌≤◌, unsigned_abs}
 use Rattle.std.specs.List.{position_or_len}
 use Rattle.std.specs.Option.{is_none}
 use Rattle.std.specs.Ordering.{int_eq}
@@ -9,7 +10,7 @@ use Rattle.fixed_geometry.specs.Maps.{Map, parts, linear_limit}
 use Rattle.fixed_geometry.specs.declared.sixteen.AffineError.{AffineError}
 use Rattle.fixed_geometry.specs.declared.sixteen.AffineError.TheVariants.{OutOfRange, NotAffine}
 
--- whether the number at the index is a coordinate of the shift, in metres, rather than a linear entry
+-- whether the number at the index is a coordinate of the shift, in metres, and no linear entry
 abbrev pub is_shift : ℕ → Bool
 is_shift k = nat_le 12 k && nat_lt k 15
 
@@ -33,6 +34,11 @@ number_of (Some v) = v
 abbrev pub number_at : List (Option ℤ) → ℕ → ℤ
 number_at ns k = number_of (slice_index_or ns k None)
 
+-- at most sixteen numbers, each within the limit at its index
+pub record AreNumbersInRange (count : ℕ) (values : List (Option ℤ)) : Type 0 where
+  pub few : count ≤ 16
+  pub in_range : (k : ℕ) → unsigned_abs (number_at values k) ≤ limit_at k
+
 -- the first index out of range, or the length where all are in range
 abbrev pub first_missing : List (Option ℤ) → ℕ
 first_missing ns = position_or_len is_none ns
@@ -54,7 +60,7 @@ map_of ns = record {
   shift = record { x = number_at ns 12; y = number_at ns 13; z = number_at ns 14 };
 }
 
--- the map of sixteen numbers; a number out of range comes before a bottom row that is not 0, 0, 0, 1
+-- the map of sixteen numbers; a number out of range comes before a bottom row that isn't 0, 0, 0, 1
 abbrev pub affine_of : List (Option ℤ) → Result Map AffineError
 affine_of ns =
     if nat_lt (first_missing ns) 16 then Err (OutOfRange (first_missing ns))

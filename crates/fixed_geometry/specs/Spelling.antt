@@ -1,7 +1,10 @@
 -- The spellings of a number, and the decimal that each stands for (RFC 8259, section 6):
--- number = [ minus ] int [ frac ] [ exp ], where frac is a point and digits, and exp a mark, a sign or none, and digits.
-use Rattle.std.specs.Prelude.{ℕ, ◌+◌, ◌*◌, ◌^◌, ◌<◌, List, [], ◌∷◌, ◌++◌, Bool, true, false, if◌then◌else◌, ℤ, Option, Some, None, map, length, fold, All, ◌≡◌}
-use Rattle.fixed_geometry.specs.Ascii.{digit_zero, minus_sign, plus_sign, decimal_point, small_e, capital_e}
+-- number = [ minus ] int [ frac ] [ exp ], where frac is a point and digits, and exp a mark, a sign
+-- or none, and digits.
+use Rattle.std.specs.Prelude.{ℕ, ◌+◌, ◌*◌, ◌^◌, ◌<◌, List, [], ◌∷◌, ◌++◌, Bool, true, false}
+use Rattle.std.specs.Prelude.{if◌then◌else◌, ℤ, Option, Some, None, map, length, fold, All, ◌≡◌}
+use Rattle.fixed_geometry.specs.Ascii.{digit_zero, minus_sign, plus_sign, decimal_point, small_e}
+use Rattle.fixed_geometry.specs.Ascii.{capital_e}
 use Rattle.fixed_geometry.specs.Quotient.{half_size}
 use Rattle.fixed_geometry.specs.Decimal.{has_minus, mantissa, fixed_size, with_sign}
 
@@ -57,11 +60,14 @@ exponent_sign_text Minus = minus_sign ∷ []
 abbrev pub exponent_text : Option Exponent → List ℕ
 exponent_text None = []
 exponent_text (Some e) =
-    (if e.is_capital then capital_e else small_e) ∷ (exponent_sign_text e.sign ++ digits_text e.digits)
+    (if e.is_capital then capital_e else small_e)
+    ∷ (exponent_sign_text e.sign ++ digits_text e.digits)
 
 abbrev pub text_of : Spelling → List ℕ
 text_of s =
-    sign_text s.is_negative ++ (digits_text s.whole ++ fraction_text s.fraction) ++ exponent_text s.exponent
+    sign_text s.is_negative
+    ++ (digits_text s.whole ++ fraction_text s.fraction)
+    ++ exponent_text s.exponent
 
 -- ---- the number
 
@@ -72,7 +78,8 @@ number_of ds = fold (λ n d. 10 * n + d) 0 ds
 -- how often an exponent multiplies by ten
 abbrev pub exponent_above : Option Exponent → ℕ
 exponent_above None = 0
-exponent_above (Some e) = elim e.sign [ NoSign ↦ number_of e.digits | Plus ↦ number_of e.digits | Minus ↦ 0 ]
+exponent_above (Some e) = elim e.sign
+    [ NoSign ↦ number_of e.digits | Plus ↦ number_of e.digits | Minus ↦ 0 ]
 
 -- how often an exponent divides by ten
 abbrev pub exponent_below : Option Exponent → ℕ
@@ -87,7 +94,8 @@ decimal_of s places =
     let divisor = 10 ^ (length fraction + exponent_below s.exponent) in
     with_sign s.is_negative (half_size multiplied divisor)
 
--- with a minus in front, and with none, the text spells n with its last f digits behind the point
+-- with a minus sign before it, and with none, the text spells n with its last f digits behind the point
 pub record SpellsUnsigned (t : List ℕ) (n f : ℕ) : Type 0 where
   pub sign : (negative : Bool) → has_minus (mantissa (sign_text negative ++ t)) ≡ negative
-  pub size : (negative : Bool) (places : ℕ) → fixed_size (sign_text negative ++ t) places ≡ half_size (n * 10 ^ places) (10 ^ f)
+  pub size : (negative : Bool) (places : ℕ)
+      → fixed_size (sign_text negative ++ t) places ≡ half_size (n * 10 ^ places) (10 ^ f)

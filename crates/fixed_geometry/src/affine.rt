@@ -1,27 +1,25 @@
 //! Affine maps of whole numbers.
 
-ghost use Rattle.std.specs.Prelude.{◌≡◌, ◌≤◌, ◌+ℤ◌, max, unsigned_abs};
-ghost use Rattle.fixed_geometry.specs.Points.{IsWithin, coordinate_limit, norm};
-ghost use Rattle.fixed_geometry.specs.Root.{ceiling_root};
+ghost use Rattle.std.specs.Prelude.{◌≡◌, ◌≤◌, ◌+ℤ◌, unsigned_abs};
+ghost use Rattle.fixed_geometry.specs.Points.{IsWithin, coordinate_limit};
 ghost use Rattle.fixed_geometry.specs.Maps.{linear_limit};
 ghost use Rattle.fixed_geometry.specs.Maps as maps;
 ghost use Rattle.fixed_geometry.specs.Quotient as quotients;
 
-use crate::point::Point;
+use crate::limits::{LINEAR_LIMIT, PARTS};
+use crate::point::{Point, transposed};
 use crate::quotient::{clamp, half};
 use crate::roots::root_ceil;
 use crate::sixteen::{AffineError, Sixteen};
 use std::marker::Model;
 
 /// The linear entry that stands for 1.
-pub(crate) const PARTS: i64 = 1_000_000_000;
-
-/// The greatest size of a linear entry, which stands for 2^20.
-pub(crate) const LINEAR_LIMIT: i64 = (1 << 20) * PARTS;
+pub(crate) const ONE: i64 = PARTS as i64;
 
 /// An affine map: three rows of three linear entries in 10^-9 parts, and a shift in millimetres.
 ///
-/// Linear entries are at most 2^20 in size, which is 2^20 * 10^9 parts, and shifts at most 2^36 millimetres.
+/// Linear entries are at most 2^20 in size, which is 2^20 * 10^9 parts, and shifts at most 2^36
+/// millimetres.
 #[derive(Clone, Copy)]
 pub struct Affine {
     x: Point,
@@ -30,7 +28,8 @@ pub struct Affine {
     shift: Point,
     /// The length of the longest column, which each moved volume and error asks for.
     scale: u64,
-    /// Whether the rows are those of the identity. Such maps are common, and move a point by three sums.
+    /// Whether the rows are those of the identity. Such maps are common, and move a point by three
+    /// sums.
     only_shifts: bool,
 }
 
@@ -69,23 +68,11 @@ impl Affine {
         ensures { result ≡ maps.identity }
     {
         Affine {
-            x: Point {
-                x: PARTS,
-                y: 0,
-                z: 0,
-            },
-            y: Point {
-                x: 0,
-                y: PARTS,
-                z: 0,
-            },
-            z: Point {
-                x: 0,
-                y: 0,
-                z: PARTS,
-            },
+            x: Point { x: ONE, y: 0, z: 0 },
+            y: Point { x: 0, y: ONE, z: 0 },
+            z: Point { x: 0, y: 0, z: ONE },
             shift: Point { x: 0, y: 0, z: 0 },
-            scale: PARTS as u64,
+            scale: PARTS,
             only_shifts: true,
         }
     }
@@ -113,9 +100,10 @@ impl Affine {
         ))
     }
 
-    /// The map that applies `own` first, and then this one: a tile's own transform below its parent's.
+    /// The map that applies `own` first, and then this one: a tile's own transform below its
+    /// parent's.
     ///
-    /// Entries are rounded, a half away from zero, and held within the limits of a map.
+    /// Entries are rounded, a half away from zero, and clamped to the limits of a map.
     pub fn then(&self, own: &Affine) -> Affine
         ensures { result ≡ maps.after self.now own.now }
     {
@@ -185,106 +173,39 @@ impl Affine {
         }
     }
 
-    /// The length of the longest column in 10^-9 parts, rounded up: the greatest factor by which an axis is
-    /// stretched.
+    /// The length of the longest column in 10^-9 parts, rounded up: the greatest factor by which an
+    /// axis is stretched.
     pub fn max_scale(&self) -> i128
         ensures value { result ≡ pos (maps.max_scale self.now) }
         ensures bound { maps.max_scale self.now ≤ scale_limit }
+        ensures within { IsBounded self.now }
     {
         i128::from(self.scale)
     }
 
-    /// A step of a proof, which takes no time: the entries and the shift are within the limits of a map.
-    pub fn prove_bounded(&self)
-        ensures { IsBounded self.now }
-    {
-        let _ = &self.scale;
-    }
-
     /// The map of these rows and this shift.
     fn of_rows(x: Point, y: Point, z: Point, shift: Point) -> Affine
-        requires x { IsWithin linear_limit x }
-        requires y { IsWithin linear_limit y }
-        requires z { IsWithin linear_limit z }
-        requires shift { IsWithin coordinate_limit shift }
+        requires { IsBounded (record { x = x; y = y; z = z; shift = shift }) }
         ensures { result ≡ record { x = x; y = y; z = z; shift = shift } }
     {
-        let scale = longest(
-            Point {
-                x: x.x,
-                y: y.x,
-                z: z.x,
-            },
-            Point {
-                x: x.y,
-                y: y.y,
-                z: z.y,
-            },
-            Point {
-                x: x.z,
-                y: y.z,
-                z: z.z,
-            },
-        );
+        let (first, second, third) = transposed(x, y, z);
+        let longest = first.norm().max(second.norm()).max(third.norm());
         Affine {
             x,
             y,
             z,
             shift,
-            scale,
+            scale: root_ceil(longest) as u64,
             only_shifts: only_shift(x, y, z),
         }
     }
-
-    fn column_x(&self) -> Point
-        ensures value { result ≡ maps.column_x self.now }
-        ensures bound { IsWithin linear_limit result }
-    {
-        Point {
-            x: self.x.x,
-            y: self.y.x,
-            z: self.z.x,
-        }
-    }
-
-    fn column_y(&self) -> Point
-        ensures value { result ≡ maps.column_y self.now }
-        ensures bound { IsWithin linear_limit result }
-    {
-        Point {
-            x: self.x.y,
-            y: self.y.y,
-            z: self.z.y,
-        }
-    }
-
-    fn column_z(&self) -> Point
-        ensures value { result ≡ maps.column_z self.now }
-        ensures bound { IsWithin linear_limit result }
-    {
-        Point {
-            x: self.x.z,
-            y: self.y.z,
-            z: self.z.z,
-        }
-    }
-}
-
-/// The length of the longest of three columns, rounded up.
-fn longest(x: Point, y: Point, z: Point) -> u64
-    requires x { IsWithin linear_limit x }
-    requires y { IsWithin linear_limit y }
-    requires z { IsWithin linear_limit z }
-    ensures { result ≡ ceiling_root (max (max (norm x) (norm y)) (norm z)) }
-{
-    root_ceil(x.norm().max(y.norm()).max(z.norm())) as u64
 }
 
 /// Whether the rows are those of the identity, so that a map of these rows only shifts.
 fn only_shift(x: Point, y: Point, z: Point) -> bool
     ensures { result ≡ maps.only_shift x y z }
 {
-    is_row(x, PARTS, 0, 0) && is_row(y, 0, PARTS, 0) && is_row(z, 0, 0, PARTS)
+    is_row(x, ONE, 0, 0) && is_row(y, 0, ONE, 0) && is_row(z, 0, 0, ONE)
 }
 
 #[tactic(auto, unfolding(crate::specs::Maps::is_row))]
@@ -306,7 +227,7 @@ fn shifted(p: Point, shift: Point) -> Point
     }
 }
 
-/// A sum of two coordinates, held at their limit.
+/// A sum of two coordinates, clamped to their limit.
 fn sum(a: i64, b: i64) -> i64
     ensures value { result ≡ quotients.clamp (a +ℤ b) }
     ensures bound { unsigned_abs result ≤ coordinate_limit }
@@ -341,10 +262,11 @@ fn row_after(row: Point, own: &Affine) -> Point
     ensures value { result ≡ maps.row_after row own.now }
     ensures bound { IsWithin linear_limit result }
 {
+    let (x, y, z) = transposed(own.x, own.y, own.z);
     Point {
-        x: entry(row, own.column_x()),
-        y: entry(row, own.column_y()),
-        z: entry(row, own.column_z()),
+        x: entry(row, x),
+        y: entry(row, y),
+        z: entry(row, z),
     }
 }
 

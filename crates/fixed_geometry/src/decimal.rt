@@ -2,15 +2,16 @@
 
 ghost use Rattle.std.specs.Prelude.{◌≡◌, ◌≤◌, ◌<◌, ◌↔◌, ◌≤ℤ◌, pos, unsigned_abs, IfOk, IsOk, IsErr};
 ghost use Rattle.fixed_geometry.specs.Decimal.{fixed, fixed_size, has_minus, mantissa, with_sign};
-ghost use Rattle.fixed_geometry.specs.Decimal.{places_limit, max_limit, SameUpTo};
+ghost use Rattle.fixed_geometry.specs.Decimal.{places_limit, scaled_limit, SameUpTo};
 
+mod clamped;
 mod common;
 mod general;
-mod held;
 
+use crate::limits::SCALED_LIMIT;
+pub use clamped::scaled_clamped;
 use common::read_common;
 use general::read_general;
-pub use held::scaled_held;
 
 /// The answer of [`scaled`] where the number passes the limit.
 #[derive(Clone, Copy, Debug, PartialEq, Eq)]
@@ -24,16 +25,16 @@ pub(crate) struct Reading {
 }
 
 /// Sizes from here on are all alike: this is more than any limit.
-pub(crate) const SIZE_CEILING: u64 = (1 << 60) + 1;
+pub(crate) const SIZE_CEILING: u64 = SCALED_LIMIT + 1;
 
-/// The decimal that `text` spells (RFC 8259, section 6), times `10^places`, to the nearest whole number,
-/// a half away from zero. `OutOfRange` where that is greater than `max` in size.
+/// The decimal that `text` spells (RFC 8259, section 6), times `10^places`, to the nearest whole
+/// number, a half away from zero. `OutOfRange` where that is greater than `max` in size.
 ///
 /// With 3 places a text of metres gives millimetres, with 9 a text of parts gives 10^-9 parts.
 pub fn scaled(text: &str, places: u8, max: i128) -> Result<i128, OutOfRange>
     requires places { places ≤ places_limit }
     requires max_from { pos 0 ≤ℤ max }
-    requires max_to { max ≤ℤ pos max_limit }
+    requires max_to { max ≤ℤ pos scaled_limit }
     ensures value { IfOk result (λ n. n ≡ fixed text.now places) }
     ensures in_range { IsOk result ↔ (fixed_size text.now places ≤ unsigned_abs max) }
     ensures out_of_range { IsErr result ↔ (unsigned_abs max < fixed_size text.now places) }
@@ -58,7 +59,7 @@ fn read(text: &[u8], places: u8) -> Reading
 }
 
 fn signed(negative: bool, size: u64) -> i64
-    requires { size ≤ max_limit }
+    requires { size ≤ scaled_limit }
     ensures { result ≡ with_sign negative size }
 {
     if negative {

@@ -8,9 +8,11 @@ ghost use Rattle.fixed_geometry.specs.Maps.{Map, IsBounded, parts};
 ghost use Rattle.fixed_geometry.specs.Maps.{identity, after, apply, apply_vector, max_scale};
 ghost use Rattle.fixed_geometry.specs.Spelling.{Spelling, IsSpelling, text_of, decimal_of};
 
-/// A number's text is read as the decimal that its sign, digits and exponent stand for (RFC 8259, section 6).
+/// A number's text is read as the decimal that its sign, digits and exponent stand for (RFC 8259,
+/// section 6).
 pub fn decimal_follows_spelling()
-    ensures { (s : Spelling) (places : ℕ) → IsSpelling s → fixed (text_of s) places ≡ decimal_of s places }
+    ensures { (s : Spelling) (places : ℕ) → IsSpelling s
+        → fixed (text_of s) places ≡ decimal_of s places }
 {}
 
 /// The identity is neutral in products of maps, on either side.

@@ -2,6 +2,7 @@
 
 ghost use Rattle.std.specs.Prelude.{◌≡◌, ◌≤◌, ◌^◌, ◌*◌, ◌*ℤ◌, unsigned_abs};
 ghost use Rattle.fixed_geometry.specs.Points.{component_limit};
+ghost use Rattle.fixed_geometry.specs.Points.{x_components, y_components, z_components};
 
 /// A point by its coordinates in millimetres, or a vector by its components.
 #[derive(Clone, Copy, Debug, PartialEq, Eq)]
@@ -56,6 +57,31 @@ impl Point {
             z: self.z - other.z,
         }
     }
+}
+
+/// The vectors of the x, of the y and of the z components of three vectors: what turns rows into
+/// columns.
+pub fn transposed(a: Point, b: Point, c: Point) -> (Point, Point, Point)
+    ensures x { result.0 ≡ x_components a b c }
+    ensures y { result.1 ≡ y_components a b c }
+    ensures z { result.2 ≡ z_components a b c }
+{
+    let x = Point {
+        x: a.x,
+        y: b.x,
+        z: c.x,
+    };
+    let y = Point {
+        x: a.y,
+        y: b.y,
+        z: c.y,
+    };
+    let z = Point {
+        x: a.z,
+        y: b.z,
+        z: c.z,
+    };
+    (x, y, z)
 }
 
 fn product(a: i64, b: i64) -> i128

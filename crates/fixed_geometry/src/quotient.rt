@@ -3,16 +3,13 @@
 ghost use Rattle.std.specs.Prelude.{◌≡◌, ◌≤◌, ◌<◌, ◌+◌, ◌*◌, ◌/◌, unsigned_abs};
 ghost use Rattle.fixed_geometry.specs.Points.{coordinate_limit};
 ghost use Rattle.fixed_geometry.specs.Quotient as quotients;
-ghost use Rattle.fixed_geometry.specs.Quotient.{operand_limit};
+ghost use Rattle.fixed_geometry.specs.Quotient.{AreOperands, operand_limit};
 
-/// The greatest size of a coordinate, in millimetres.
-pub const COORDINATE_LIMIT: i64 = 1 << 36;
+use crate::limits::COORDINATE_LIMIT;
 
 /// `n / d` to the nearest whole number, a half away from zero.
 pub fn half(n: i128, d: u128) -> i128
-    requires n { unsigned_abs n ≤ operand_limit }
-    requires d_from { 0 < d }
-    requires d_to { d ≤ operand_limit }
+    requires { AreOperands n d }
     ensures value { result ≡ quotients.half n d }
     ensures bound { unsigned_abs result ≤ unsigned_abs n }
 
@@ -26,9 +23,7 @@ pub fn half(n: i128, d: u128) -> i128
 
 /// `n / d` to the next whole number away from zero.
 pub fn up(n: i128, d: u128) -> i128
-    requires n { unsigned_abs n ≤ operand_limit }
-    requires d_from { 0 < d }
-    requires d_to { d ≤ operand_limit }
+    requires { AreOperands n d }
     ensures value { result ≡ quotients.up n d }
     ensures bound { unsigned_abs result ≤ unsigned_abs n }
 

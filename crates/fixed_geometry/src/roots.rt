@@ -15,8 +15,8 @@ pub fn root_floor(n: u128) -> u128
     ensures value { result ≡ floor_root n }
     ensures bound { result < root_limit }
 {
-    // Below 2^104 the root of the nearest float is this root, or one more. Nothing rests on it, since it
-    // is tested.
+    // Below 2^104 the root of the nearest float is this root, or one more. Nothing rests on it,
+    // since it is tested.
     let high = nearest_u64_to_f64((n >> 64) as u64);
     let low = nearest_u64_to_f64((n & u128::from(u64::MAX)) as u64);
     let near = saturating_f64_to_u64((high * TWO_TO_64 + low).sqrt());

@@ -3,10 +3,10 @@
 ghost use Rattle.std.specs.Prelude.{◌≡◌, ◌≤◌, length};
 ghost use Rattle.fixed_geometry.specs.Sixteen as sixteen;
 
-use crate::affine::{LINEAR_LIMIT, PARTS};
+use crate::affine::ONE;
 use crate::decimal::scaled;
+use crate::limits::{COORDINATE_LIMIT, LINEAR_LIMIT};
 use crate::point::Point;
-use crate::quotient::COORDINATE_LIMIT;
 use std::marker::Model;
 
 /// Why sixteen numbers give no map.
@@ -18,11 +18,11 @@ pub enum AffineError {
     NotAffine,
 }
 
-/// Up to sixteen numbers in column-major order, each as a map reads it at its index, or none where it was
-/// out of range.
+/// Up to sixteen numbers in column-major order, each as a map reads it at its index, or none where
+/// it was out of range.
 ///
-/// Numbers 12, 13 and 14, the shift, are read from metres to millimetres and are at most 2^36 in size; the
-/// others are read in 10^-9 parts and are at most 2^20 * 10^9 in size.
+/// Numbers 12, 13 and 14, the shift, are read from metres to millimetres and are at most 2^36 in
+/// size; the others are read in 10^-9 parts and are at most 2^20 * 10^9 in size.
 #[derive(Drop)]
 pub struct Sixteen {
     count: usize,
@@ -30,14 +30,14 @@ pub struct Sixteen {
 }
 
 impl Model for Sixteen {
-    ghost use Rattle.std.specs.Prelude.{ℕ, ℤ, List, Option, take, unsigned_abs, ◌≤◌};
-    ghost use Rattle.fixed_geometry.specs.Sixteen.{number_at, limit_at};
+    ghost use Rattle.std.specs.Prelude.{ℤ, List, Option, take};
+    ghost use Rattle.fixed_geometry.specs.Sixteen.{AreNumbersInRange};
 
     ghost Value = { List (Option ℤ) };
 
     ghost view = { λ s. take s.count s.values };
 
-    ghost invariant = { λ s. (s.count ≤ 16) × ((k : ℕ) → unsigned_abs (number_at s.values k) ≤ limit_at k) };
+    ghost invariant = { λ s. AreNumbersInRange s.count s.values };
 }
 
 impl Sixteen {
@@ -79,7 +79,7 @@ impl Sixteen {
         requires { length self.now ≡ 16 }
         ensures { result ≡ sixteen.is_affine self.now }
     {
-        self.at(3) == 0 && self.at(7) == 0 && self.at(11) == 0 && self.at(15) == PARTS
+        self.at(3) == 0 && self.at(7) == 0 && self.at(11) == 0 && self.at(15) == ONE
     }
 
     /// The linear entries at three indexes.
@@ -116,7 +116,7 @@ impl Sixteen {
 
     /// The number at an index, or 0 where it was out of range.
     fn at(&self, i: usize) -> i64
-        requires held { i < length self.now }
+        requires added { i < length self.now }
         requires within { i < 16 }
         ensures value { result ≡ sixteen.number_at self.now i }
         ensures bound { unsigned_abs result ≤ sixteen.limit_at i }

@@ -15,6 +15,7 @@ colon = 0x3a
 abbrev pub IsWithout : ℕ → List ℕ → Type 0
 IsWithout mark text = All (λ byte. byte ≢ mark) text
 
--- the parts of a text that stand between the marks, of which the whole text is one where there is none
+-- the parts of a text that stand between the marks, of which the whole text is one where there is
+-- none
 abbrev pub parts_at : ℕ → List ℕ → List (List ℕ)
 parts_at mark text = slice_split (λ byte. byte == mark) text

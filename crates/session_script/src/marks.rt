@@ -1,17 +1,13 @@
 //! Texts of parts with a mark between each two.
 
-ghost use Rattle.std.specs.Prelude.{◌≡◌, ℕ, ◌<◌, List, ◌∷◌, ◌++◌, [], IfSome, IsSomeAnd, MatchOption};
-ghost use Rattle.session_script.specs.Ascii.{IsWithout, parts_at};
+ghost use Rattle.std.specs.Prelude.{◌≡◌, ◌<◌, ◌∷◌, [], MatchOption};
+ghost use Rattle.session_script.specs.Ascii.{parts_at};
+ghost use Rattle.session_script.specs.Readers.{Cuts};
 
 /// What stands before the first such mark and what stands behind it, where there is one.
 pub(crate) fn cut(text: &str, mark: char) -> Option<(&str, &str)>
     requires { mark < 128 }
-    ensures found { IfSome result (λ cut. text.now ≡ cut.0.now ++ mark ∷ cut.1.now) }
-    ensures spelled { (first rest : List ℕ) → IsWithout mark first → text.now ≡ first ++ mark ∷ rest
-        → IsSomeAnd result (λ cut. (cut.0.now ≡ first) × (cut.1.now ≡ rest)) }
-    ensures parts { MatchOption result
-        (parts_at mark text.now ≡ text.now ∷ [])
-        (λ cut. parts_at mark text.now ≡ cut.0.now ∷ parts_at mark cut.1.now) }
+    ensures { Cuts mark text.now result }
 {
     text.split_once(mark)
 }

@@ -8,14 +8,16 @@ ghost use Rattle.session_script.specs.ViewTexts.{IsPlaneOf64, text_of_plane};
 
 use crate::marks::first_part;
 use crate::points::plane;
+use error_test::PLANE_LIMIT;
 use volumes::Plane;
 
-/// Reads the planes that the text spells, with a colon between each two, into the front of `planes`,
-/// and says how many they are.
-pub(crate) fn read_planes(text: &str, planes: &mut [Plane; 16]) -> Option<usize>
+/// Reads the planes that the text spells, with a colon between each two, into a prefix of
+/// `planes`, and says how many they are.
+pub(crate) fn read_planes(text: &str, planes: &mut [Plane; PLANE_LIMIT]) -> Option<usize>
     ensures found { IfSome result (λ count. (count ≤ plane_limit)
         × (parts_at colon text.now ≡ map text_of_plane (take count planes.new))) }
-    ensures spelled { (spelled : List Plane) → length spelled ≤ plane_limit → All IsPlaneOf64 spelled
+    ensures spelled { (spelled : List Plane)
+        → length spelled ≤ plane_limit → All IsPlaneOf64 spelled
         → parts_at colon text.now ≡ map text_of_plane spelled
         → IsSomeAnd result (λ count. take count planes.new ≡ spelled) }
 {

@@ -1,9 +1,8 @@
 //! Points and planes, as rows of numbers with a comma between each two.
 
-ghost use Rattle.std.specs.Prelude.{◌≡◌, ◌≤◌, IfSome};
-ghost use Rattle.fixed_geometry.specs.declared.point.Point.{Point};
-ghost use Rattle.volumes.specs.declared.plane.Plane.{Plane};
-ghost use Rattle.session_script.specs.ViewTexts.{IsPlaneOf64, IsPointOf64, text_of_plane, text_of_point};
+ghost use Rattle.session_script.specs.Readers.{Reads};
+ghost use Rattle.session_script.specs.ViewTexts.{IsPlaneOf64, IsPointOf64};
+ghost use Rattle.session_script.specs.ViewTexts.{text_of_plane, text_of_point};
 
 use crate::number::{number_and_rest, signed_number};
 use fixed_geometry::Point;
@@ -11,8 +10,7 @@ use volumes::Plane;
 
 /// The point that the text spells as `x,y,z`.
 pub(crate) fn point(text: &str) -> Option<Point>
-    ensures found { IfSome result (λ p. text.now ≡ text_of_point p) }
-    ensures spelled { (p : Point) → IsPointOf64 p → text.now ≡ text_of_point p → result ≡ Some p }
+    ensures { Reads text_of_point IsPointOf64 text.now result }
 {
     let (x, rest) = number_and_rest(text)?;
     let (y, rest) = number_and_rest(rest)?;
@@ -22,8 +20,7 @@ pub(crate) fn point(text: &str) -> Option<Point>
 
 /// The plane that the text spells as `nx,ny,nz,d`.
 pub(crate) fn plane(text: &str) -> Option<Plane>
-    ensures found { IfSome result (λ p. text.now ≡ text_of_plane p) }
-    ensures spelled { (p : Plane) → IsPlaneOf64 p → text.now ≡ text_of_plane p → result ≡ Some p }
+    ensures { Reads text_of_plane IsPlaneOf64 text.now result }
 {
     let (x, rest) = number_and_rest(text)?;
     let (y, rest) = number_and_rest(rest)?;

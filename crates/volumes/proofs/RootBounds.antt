@@ -12,19 +12,22 @@ pub root_at_most : (n m : ℕ) → n < squared (m + 1) → floor_root n ≤ m
 root_at_most n m h =
     let f = floor_root-is n in
     ⊎_elim
-    (λ (k : m < floor_root n). let e : (m + 1) * (m + 1) ≤ floor_root n * floor_root n = mul-le-mul (omega arith) (omega arith) in absurd (omega (arith, f.square)))
+    (λ (k : m < floor_root n). let e : (m + 1) * (m + 1) ≤ floor_root n * floor_root n =
+    mul-le-mul (omega arith) (omega arith) in absurd (omega (arith, f.square)))
     (λ (k : floor_root n ≤ m). k)
     (cases_lt m (floor_root n))
 
 pub below_next_square : (n m : ℕ) → floor_root n ≤ m → n < squared (m + 1)
 below_next_square n m h =
     let f = floor_root-is n in
-    let e : (floor_root n + 1) * (floor_root n + 1) ≤ (m + 1) * (m + 1) = mul-le-mul (omega arith) (omega arith) in
+    let e : (floor_root n + 1) * (floor_root n + 1) ≤ (m + 1) * (m + 1) =
+    mul-le-mul (omega arith) (omega arith) in
     omega (arith, f.next)
 
 -- a number below 2^128 has a root below 2^64
 pub root_fits : (n : ℕ) → n < 2 ^ 128 → floor_root n < 2 ^ 64
-root_fits n h = let most : floor_root n ≤ 2 ^ 64 - 1 = root_at_most n (2 ^ 64 - 1) (omega arith) in omega arith
+root_fits n h = let most : floor_root n ≤ 2 ^ 64 - 1 = root_at_most n (2 ^ 64 - 1) (omega arith) in
+    omega arith
 
 -- a number below 2^80 has a root of at most 2^40
 pub root_of_80_bits : (n : ℕ) → n < 2 ^ 80 → floor_root n ≤ 2 ^ 40
@@ -41,7 +44,8 @@ square_test n m = ⊎_elim
     (cases_lt n (squared (m + 1)))
 
 -- what is below a bound after r is taken off is below the bound and r together
-pub reach_test : (root r bound : ℕ) → root < 2 ^ 64 → leb root (min (bound + r) (2 ^ 64 - 1)) ≡ leb (root - r) bound
+pub reach_test : (root r bound : ℕ) → root < 2 ^ 64
+    → leb root (min (bound + r) (2 ^ 64 - 1)) ≡ leb (root - r) bound
 reach_test root r bound h = ⊎_elim
     (λ (g : bound < root - r). grind (arith, nat_tests))
     (λ (g : root - r ≤ bound). grind (arith, nat_tests))

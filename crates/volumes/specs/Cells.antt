@@ -1,15 +1,41 @@
 -- The cells of a box that is divided evenly: OGC 22-025r4, implicit tiling, subdivision schemes.
-use Rattle.std.specs.Prelude.{ℕ, ◌+◌, ◌*◌, ◌^◌, List, [], ◌∷◌, ℤ, pos, ◌+ℤ◌, ◌-ℤ◌}
+use Rattle.std.specs.Prelude.{ℕ, ◌+◌, ◌*◌, ◌^◌, ◌<◌, ◌≤◌, List, [], ◌∷◌, ℤ, pos, ◌+ℤ◌, ◌-ℤ◌}
 use Rattle.fixed_geometry.specs.declared.point.Point.{Point}
-use Rattle.fixed_geometry.specs.Points.{dot}
+use Rattle.fixed_geometry.specs.Points.{IsWithin, dot, x_components, y_components, z_components}
 use Rattle.fixed_geometry.specs.Quotient.{half, up, clamp}
 use Rattle.volumes.specs.declared.volume.Volume.{Volume}
 use Rattle.volumes.specs.declared.volume.Volume.TheVariants.{Oriented, Ball}
-use Rattle.volumes.specs.Limits.{half_axis}
+use Rattle.volumes.specs.Limits.{cell_limit, half_axis, level_limit}
 
 -- how many cells stand side by side at a level
 abbrev pub cell_count : ℕ → ℕ
 cell_count level = 2 ^ level
+
+-- there is such a level, and such a place among the cells that stand side by side on it
+pub record IsPlace (level place : ℕ) : Type 0 where
+  pub level_to : level ≤ level_limit
+  pub place_to : place < cell_count level
+
+-- there is such a cell of a quadtree
+pub record IsQuadCell (level x y : ℕ) : Type 0 where
+  pub along_x : IsPlace level x
+  pub along_y : IsPlace level y
+
+-- there is such a cell of an octree
+pub record IsOctCell (level x y z : ℕ) : Type 0 where
+  pub along_x : IsPlace level x
+  pub along_y : IsPlace level y
+  pub along_z : IsPlace level z
+
+-- so many cells stand side by side on a level
+pub record IsCellCount (count : ℕ) : Type 0 where
+  pub from : 0 < count
+  pub to : count ≤ cell_limit
+
+-- a cell may have its centre there, on a level of so many cells
+pub record IsCell (offsets : Point) (count : ℕ) : Type 0 where
+  pub within : IsWithin cell_limit offsets
+  pub side_by_side : IsCellCount count
 
 -- where a cell's centre stands along a half axis, in parts of which the half axis has 2^level
 abbrev pub cell_offset : ℕ → ℕ → ℤ
@@ -26,15 +52,9 @@ oct_offsets level x y z = record {
   z = cell_offset level z;
 }
 
--- the x components of the three half axes, and their y and z components
-abbrev pub x_components : List Point → Point
-x_components axes = record { x = (half_axis axes 0).x; y = (half_axis axes 1).x; z = (half_axis axes 2).x }
-
-abbrev pub y_components : List Point → Point
-y_components axes = record { x = (half_axis axes 0).y; y = (half_axis axes 1).y; z = (half_axis axes 2).y }
-
-abbrev pub z_components : List Point → Point
-z_components axes = record { x = (half_axis axes 0).z; y = (half_axis axes 1).z; z = (half_axis axes 2).z }
+-- what is made of the three half axes
+abbrev pub of_half_axes : (Point → Point → Point → Point) → List Point → Point
+of_half_axes make axes = make (half_axis axes 0) (half_axis axes 1) (half_axis axes 2)
 
 -- one component of a cell's centre
 abbrev pub centre_component : ℤ → Point → Point → ℕ → ℤ
@@ -43,9 +63,9 @@ centre_component from components offsets count = clamp (from +ℤ half (dot comp
 -- the centre of the cell at these offsets
 abbrev pub cell_centre : Point → List Point → Point → ℕ → Point
 cell_centre centre axes offsets count = record {
-  x = centre_component centre.x (x_components axes) offsets count;
-  y = centre_component centre.y (y_components axes) offsets count;
-  z = centre_component centre.z (z_components axes) offsets count;
+  x = centre_component centre.x (of_half_axes x_components axes) offsets count;
+  y = centre_component centre.y (of_half_axes y_components axes) offsets count;
+  z = centre_component centre.z (of_half_axes z_components axes) offsets count;
 }
 
 -- a half axis divided among the cells, each component rounded away from zero

@@ -1,5 +1,6 @@
 -- How far a point is outside a volume, and whether the volume contains it.
-use Rattle.std.specs.Prelude.{ℕ, List, ◌+◌, ◌-◌, ◌*◌, ◌/◌, Bool, ◌&&◌, ◌==◌, nat_le, if◌then◌else◌, unsigned_abs}
+use Rattle.std.specs.Prelude.{ℕ, List, ◌+◌, ◌-◌, ◌*◌, ◌/◌, Bool, ◌&&◌, ◌==◌, nat_le, if◌then◌else◌}
+use Rattle.std.specs.Prelude.{unsigned_abs}
 use Rattle.fixed_geometry.specs.declared.point.Point.{Point}
 use Rattle.fixed_geometry.specs.Points.{dot, norm, difference}
 use Rattle.fixed_geometry.specs.Root.{floor_root, ceiling_root}
@@ -23,7 +24,9 @@ squared n = n * n
 -- the sum of the squares of the three gaps
 abbrev pub squared_gaps : Point → List Point → ℕ
 squared_gaps q axes =
-    squared (gap q (half_axis axes 0)) + squared (gap q (half_axis axes 1)) + squared (gap q (half_axis axes 2))
+    squared (gap q (half_axis axes 0))
+    + squared (gap q (half_axis axes 1))
+    + squared (gap q (half_axis axes 2))
 
 -- how far the point is outside the volume, in whole millimetres rounded down
 abbrev pub distance : Volume → Point → ℕ
@@ -44,4 +47,5 @@ is_inside_box q axes =
 -- the point is inside the volume or on its surface
 abbrev pub contains : Volume → Point → Bool
 contains (Oriented centre axes) p = is_inside_box (difference p centre) axes
-contains (Ball centre radius) p = nat_le (norm (difference p centre)) (squared (unsigned_abs radius))
+contains (Ball centre radius) p =
+    nat_le (norm (difference p centre)) (squared (unsigned_abs radius))

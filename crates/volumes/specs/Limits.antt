@@ -1,30 +1,37 @@
 -- The sizes within which volumes, planes and errors lie.
-use Rattle.std.specs.Prelude.{ℕ, ◌^◌, ◌≤◌, List, [], slice_index_or, ℤ, pos, ◌≤ℤ◌, unsigned_abs}
+use Rattle.std.specs.Prelude.{ℕ, ◌≤◌, List, [], slice_index_or, ℤ, pos, ◌≤ℤ◌, unsigned_abs}
 use Rattle.fixed_geometry.specs.declared.point.Point.{Point}
 use Rattle.fixed_geometry.specs.Points.{coordinate_limit, IsWithin}
+use Rattle.fixed_geometry.specs.declared.limits.TheConstants.{DISTANCE_LIMIT, ERROR_LIMIT}
+use Rattle.volumes.specs.declared.limits.TheConstants.{CELL_LIMIT, LEVEL_LIMIT, NORMAL_LIMIT}
+use Rattle.volumes.specs.declared.limits.TheConstants.{OFFSET_LIMIT}
 use Rattle.volumes.specs.declared.plane.Plane.{Plane}
 use Rattle.volumes.specs.declared.volume.Volume.{Volume}
 use Rattle.volumes.specs.declared.volume.Volume.TheVariants.{Oriented, Ball}
 
 -- the greatest component of a plane's normal
 abbrev pub normal_limit : ℕ
-normal_limit = 2 ^ 20
+normal_limit = NORMAL_LIMIT
 
 -- the greatest offset of a plane
 abbrev pub offset_limit : ℕ
-offset_limit = 2 ^ 57
+offset_limit = OFFSET_LIMIT
 
 -- the greatest error, in micrometres
 abbrev pub error_limit : ℕ
-error_limit = 2 ^ 50
+error_limit = ERROR_LIMIT
 
 -- no point within the limit of coordinates is farther from a volume, in millimetres
 abbrev pub distance_limit : ℕ
-distance_limit = 2 ^ 40
+distance_limit = DISTANCE_LIMIT
 
 -- the greatest level to which a box is divided
 abbrev pub level_limit : ℕ
-level_limit = 29
+level_limit = LEVEL_LIMIT
+
+-- how many cells stand side by side on that level
+abbrev pub cell_limit : ℕ
+cell_limit = CELL_LIMIT
 
 -- the vector without length, which is also the origin
 abbrev pub zero_vector : Point
@@ -71,3 +78,8 @@ pub record IsPlaneInRange (p : Plane) : Type 0 where
 abbrev pub IsBox : Volume → Type 0
 IsBox (Oriented centre axes) = Unit {0}
 IsBox (Ball centre radius) = ⊥
+
+-- the volume is a box within the limits
+pub record IsBoxInRange (v : Volume) : Type 0 where
+  pub is_box : IsBox v
+  pub in_range : IsInRange v

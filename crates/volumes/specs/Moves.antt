@@ -16,15 +16,16 @@ moved_axes axes map =
     ∷ apply_vector map (half_axis axes 2)
     ∷ []
 
--- the radius under the map, rounded up and held at the limit of coordinates
+-- the radius under the map, rounded up and clamped to the limit of coordinates
 abbrev pub moved_radius : ℕ → Map → ℕ
 moved_radius radius map = min (up_size (radius * max_scale map) parts) coordinate_limit
 
 -- the volume under the map, which moves a centre as a point
 abbrev pub moved : Volume → Map → Volume
 moved (Oriented centre axes) map = Oriented (apply map centre) (moved_axes axes map)
-moved (Ball centre radius) map = Ball (apply map centre) (pos (moved_radius (unsigned_abs radius) map))
+moved (Ball centre radius) map =
+    Ball (apply map centre) (pos (moved_radius (unsigned_abs radius) map))
 
--- the error under the map, to the nearest micrometre and held at the limit of errors
+-- the error under the map, to the nearest micrometre and clamped to the limit of errors
 abbrev pub moved_error : ℕ → Map → ℕ
 moved_error error map = min (half_size (error * max_scale map) parts) error_limit

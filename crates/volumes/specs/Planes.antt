@@ -1,5 +1,6 @@
 -- On which side of a plane a volume lies. The inner side is where n . p + d is at least 0.
-use Rattle.std.specs.Prelude.{ℕ, ◌+◌, ◌*◌, Bool, true, false, ◌&&◌, nat_lt, int_lt, ℤ, pos, ◌+ℤ◌, ◌<ℤ◌, neg_ℤ, unsigned_abs}
+use Rattle.std.specs.Prelude.{ℕ, ◌+◌, ◌*◌, Bool, true, false, ◌&&◌, nat_lt, int_lt, ℤ, pos, ◌+ℤ◌}
+use Rattle.std.specs.Prelude.{◌<ℤ◌, neg_ℤ, unsigned_abs}
 use Rattle.fixed_geometry.specs.declared.point.Point.{Point}
 use Rattle.fixed_geometry.specs.Points.{dot, norm}
 use Rattle.volumes.specs.declared.plane.Plane.{Plane}

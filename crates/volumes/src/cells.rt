@@ -1,28 +1,24 @@
 //! The cells of a box that is divided evenly (OGC 22-025r4, implicit tiling).
 
-ghost use Rattle.std.specs.Prelude.{◌≡◌, ◌<◌, ◌≤◌, ◌^◌, unsigned_abs};
+ghost use Rattle.std.specs.Prelude.{◌≡◌, ◌≤◌, unsigned_abs};
 ghost use Rattle.fixed_geometry.specs.Points.{IsWithin, coordinate_limit};
 ghost use Rattle.fixed_geometry.specs.Quotient.{up};
-ghost use Rattle.volumes.specs.Cells.{cell_centre, cell_count, cell_offset, centre_component, divided};
-ghost use Rattle.volumes.specs.Cells.{oct_offsets, quad_offsets, split_oct, split_quad};
-ghost use Rattle.volumes.specs.Cells.{x_components, y_components, z_components};
-ghost use Rattle.volumes.specs.Limits.{AreHalfAxesInRange, IsBox, IsInRange, level_limit};
+ghost use Rattle.volumes.specs.Cells.{IsCell, IsCellCount, IsOctCell, IsPlace, IsQuadCell};
+ghost use Rattle.volumes.specs.Cells.{cell_centre, cell_count, cell_offset, centre_component};
+ghost use Rattle.volumes.specs.Cells.{divided, oct_offsets, quad_offsets, split_oct, split_quad};
+ghost use Rattle.volumes.specs.Limits.{AreHalfAxesInRange, IsBoxInRange, cell_limit, level_limit};
 
 use crate::volume::Volume;
-use fixed_geometry::{Point, clamp, half, up};
+use fixed_geometry::{Point, clamp, half, transposed, up};
 
 impl Volume {
     /// The box of the quadtree's cell at this level and place: the first two half axes are divided
     /// into 2^level parts, the third stays whole.
     pub fn split_quad(&self, level: u8, x: u32, y: u32) -> Volume
-        requires volume { IsInRange self.now }
-        requires is_box { IsBox self.now }
-        requires level { level ≤ level_limit }
-        requires x { x < cell_count level }
-        requires y { y < cell_count level }
+        requires volume { IsBoxInRange self.now }
+        requires cell { IsQuadCell level x y }
         ensures value { result ≡ split_quad self.now level x y }
-        ensures within { IsInRange result }
-        ensures is_box { IsBox result }
+        ensures within { IsBoxInRange result }
     {
         match *self {
             Volume::Oriented { centre, axes } => {
@@ -39,15 +35,10 @@ impl Volume {
     /// The box of the octree's cell at this level and place: all three half axes are divided into
     /// 2^level parts.
     pub fn split_oct(&self, level: u8, x: u32, y: u32, z: u32) -> Volume
-        requires volume { IsInRange self.now }
-        requires is_box { IsBox self.now }
-        requires level { level ≤ level_limit }
-        requires x { x < cell_count level }
-        requires y { y < cell_count level }
-        requires z { z < cell_count level }
+        requires volume { IsBoxInRange self.now }
+        requires cell { IsOctCell level x y z }
         ensures value { result ≡ split_oct self.now level x y z }
-        ensures within { IsInRange result }
-        ensures is_box { IsBox result }
+        ensures within { IsBoxInRange result }
     {
         match *self {
             Volume::Oriented { centre, axes } => {
@@ -70,28 +61,24 @@ impl Volume {
 fn cell_count(level: u8) -> u64
     requires { level ≤ level_limit }
     ensures value { result ≡ cell_count level }
-    ensures from { 0 < result }
-    ensures to { result ≤ 2 ^ 29 }
+    ensures within { IsCellCount result }
 {
     1 << level
 }
 
-/// Where the centre of a cell stands along a half axis, in parts of which it has `2^level`.
+/// Where the centre of a cell stands along a half axis, in parts of which it has 2^level.
 fn cell_offset(level: u8, place: u32) -> i64
-    requires level { level ≤ level_limit }
-    requires place { place < cell_count level }
+    requires { IsPlace level place }
     ensures value { result ≡ cell_offset level place }
-    ensures bound { unsigned_abs result ≤ 2 ^ 29 }
+    ensures bound { unsigned_abs result ≤ cell_limit }
 {
     2 * i64::from(place) + 1 - cell_count(level) as i64
 }
 
 fn quad_offsets(level: u8, x: u32, y: u32) -> Point
-    requires level { level ≤ level_limit }
-    requires x { x < cell_count level }
-    requires y { y < cell_count level }
+    requires { IsQuadCell level x y }
     ensures value { result ≡ quad_offsets level x y }
-    ensures bound { IsWithin (2 ^ 29) result }
+    ensures bound { IsWithin cell_limit result }
 {
     Point {
         x: cell_offset(level, x),
@@ -101,12 +88,9 @@ fn quad_offsets(level: u8, x: u32, y: u32) -> Point
 }
 
 fn oct_offsets(level: u8, x: u32, y: u32, z: u32) -> Point
-    requires level { level ≤ level_limit }
-    requires x { x < cell_count level }
-    requires y { y < cell_count level }
-    requires z { z < cell_count level }
+    requires { IsOctCell level x y z }
     ensures value { result ≡ oct_offsets level x y z }
-    ensures bound { IsWithin (2 ^ 29) result }
+    ensures bound { IsWithin cell_limit result }
 {
     Point {
         x: cell_offset(level, x),
@@ -119,52 +103,15 @@ fn oct_offsets(level: u8, x: u32, y: u32, z: u32) -> Point
 fn cell_centre(centre: Point, axes: &[Point; 3], offsets: Point, count: u64) -> Point
     requires centre { IsWithin coordinate_limit centre }
     requires axes { AreHalfAxesInRange axes.now }
-    requires offsets { IsWithin (2 ^ 29) offsets }
-    requires count_from { 0 < count }
-    requires count_to { count ≤ 2 ^ 29 }
+    requires cell { IsCell offsets count }
     ensures value { result ≡ cell_centre centre axes.now offsets count }
     ensures bound { IsWithin coordinate_limit result }
 {
+    let (x, y, z) = transposed(axes[0], axes[1], axes[2]);
     Point {
-        x: centre_component(centre.x, x_components(axes), offsets, count),
-        y: centre_component(centre.y, y_components(axes), offsets, count),
-        z: centre_component(centre.z, z_components(axes), offsets, count),
-    }
-}
-
-fn x_components(axes: &[Point; 3]) -> Point
-    requires { AreHalfAxesInRange axes.now }
-    ensures value { result ≡ x_components axes.now }
-    ensures bound { IsWithin coordinate_limit result }
-{
-    Point {
-        x: axes[0].x,
-        y: axes[1].x,
-        z: axes[2].x,
-    }
-}
-
-fn y_components(axes: &[Point; 3]) -> Point
-    requires { AreHalfAxesInRange axes.now }
-    ensures value { result ≡ y_components axes.now }
-    ensures bound { IsWithin coordinate_limit result }
-{
-    Point {
-        x: axes[0].y,
-        y: axes[1].y,
-        z: axes[2].y,
-    }
-}
-
-fn z_components(axes: &[Point; 3]) -> Point
-    requires { AreHalfAxesInRange axes.now }
-    ensures value { result ≡ z_components axes.now }
-    ensures bound { IsWithin coordinate_limit result }
-{
-    Point {
-        x: axes[0].z,
-        y: axes[1].z,
-        z: axes[2].z,
+        x: centre_component(centre.x, x, offsets, count),
+        y: centre_component(centre.y, y, offsets, count),
+        z: centre_component(centre.z, z, offsets, count),
     }
 }
 
@@ -172,9 +119,7 @@ fn z_components(axes: &[Point; 3]) -> Point
 fn centre_component(from: i64, components: Point, offsets: Point, count: u64) -> i64
     requires from { unsigned_abs from ≤ coordinate_limit }
     requires components { IsWithin coordinate_limit components }
-    requires offsets { IsWithin (2 ^ 29) offsets }
-    requires count_from { 0 < count }
-    requires count_to { count ≤ 2 ^ 29 }
+    requires cell { IsCell offsets count }
     ensures value { result ≡ centre_component from components offsets count }
     ensures bound { unsigned_abs result ≤ coordinate_limit }
 {
@@ -185,8 +130,7 @@ fn centre_component(from: i64, components: Point, offsets: Point, count: u64) ->
 /// A half axis divided among the cells, each component rounded away from zero.
 fn divided(axis: Point, count: u64) -> Point
     requires axis { IsWithin coordinate_limit axis }
-    requires count_from { 0 < count }
-    requires count_to { count ≤ 2 ^ 29 }
+    requires count { IsCellCount count }
     ensures value { result ≡ divided axis count }
     ensures bound { IsWithin coordinate_limit result }
 {
@@ -199,8 +143,7 @@ fn divided(axis: Point, count: u64) -> Point
 
 fn rounded_up(component: i64, count: u64) -> i64
     requires component { unsigned_abs component ≤ coordinate_limit }
-    requires count_from { 0 < count }
-    requires count_to { count ≤ 2 ^ 29 }
+    requires count { IsCellCount count }
     ensures value { result ≡ up component count }
     ensures bound { unsigned_abs result ≤ coordinate_limit }
 {

@@ -7,20 +7,12 @@ ghost use Rattle.volumes.specs.Limits.{AreHalfAxesInRange, IsInRange, error_limi
 ghost use Rattle.volumes.specs.Moves.{moved, moved_axes, moved_error, moved_radius};
 
 use crate::volume::Volume;
-use fixed_geometry::{Affine, Point};
-
-/// What stands for 1 in the linear entries of a map.
-const PARTS: u128 = 1_000_000_000;
-
-/// The greatest radius, in millimetres.
-const RADIUS_LIMIT: u128 = 1 << 36;
-
-/// The greatest error, in micrometres.
-const ERROR_LIMIT: u128 = 1 << 50;
+use fixed_geometry::{Affine, COORDINATE_LIMIT, ERROR_LIMIT, PARTS, Point};
 
 impl Volume {
     /// The volume under the map: its centre moves as a point, half axes move as vectors, and a
-    /// radius grows by the map's greatest scale, rounded up and held at the limit of coordinates.
+    /// radius grows by the map's greatest scale, rounded up and clamped to the limit of
+    /// coordinates.
     pub fn moved(&self, by: &Affine) -> Volume
         requires { IsInRange self.now }
         ensures value { result ≡ moved self.now by.now }
@@ -62,10 +54,10 @@ fn moved_radius(radius: i64, by: &Affine) -> i64
     ensures to { result ≤ℤ pos coordinate_limit }
 {
     let scaled = u128::from(radius.unsigned_abs()) * by.max_scale() as u128;
-    scaled.div_ceil(PARTS).min(RADIUS_LIMIT) as i64
+    scaled.div_ceil(PARTS as u128).min(COORDINATE_LIMIT as u128) as i64
 }
 
-/// A geometric error under the map, in micrometres to the nearest one, held at 2^50. It grows by
+/// A geometric error under the map, in micrometres to the nearest one, clamped to 2^50. It grows by
 /// the map's greatest scale.
 pub fn moved_error(error: u64, by: &Affine) -> u64
     requires { error ≤ error_limit }
@@ -73,5 +65,6 @@ pub fn moved_error(error: u64, by: &Affine) -> u64
     ensures bound { result ≤ error_limit }
 {
     let scaled = u128::from(error) * by.max_scale() as u128;
-    ((2 * scaled + PARTS) / (2 * PARTS)).min(ERROR_LIMIT) as u64
+    let unit = PARTS as u128;
+    ((2 * scaled + unit) / (2 * unit)).min(ERROR_LIMIT as u128) as u64
 }

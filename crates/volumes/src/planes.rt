@@ -2,7 +2,8 @@
 
 ghost use Rattle.std.specs.Prelude.{◌↔◌, IsTrue, ◌≡◌, ◌≤◌, ◌^◌, ◌*ℤ◌, unsigned_abs};
 ghost use Rattle.fixed_geometry.specs.Points.{IsWithin, coordinate_limit, dot};
-ghost use Rattle.volumes.specs.Limits.{AreHalfAxesInRange, IsBox, IsInRange, IsPlaneInRange, normal_limit};
+ghost use Rattle.volumes.specs.Limits.{AreHalfAxesInRange, IsBox, IsInRange, IsPlaneInRange};
+ghost use Rattle.volumes.specs.Limits.{normal_limit};
 ghost use Rattle.volumes.specs.Planes.{AreCornersOutside, extent, height_above, outside};
 
 use crate::distance::{squared, squared_radius};

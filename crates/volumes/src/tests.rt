@@ -1,5 +1,7 @@
-ghost use Rattle.std.specs.Prelude.{◌≡◌, ◌≤◌, ◌^◌, length, unsigned_abs};
-ghost use Rattle.volumes.specs.Limits.{IsBox, IsInRange, IsPlaneInRange};
+//! Boxes and spheres at given places, and each public call once.
+
+ghost use Rattle.std.specs.Prelude.{◌≡◌, ◌≤◌, length, unsigned_abs};
+ghost use Rattle.volumes.specs.Limits.{IsBoxInRange, IsInRange, IsPlaneInRange, offset_limit};
 
 use crate::{Plane, Volume, moved_error};
 use fixed_geometry::{Affine, Point, Sixteen};
@@ -12,8 +14,7 @@ fn point(x: i64, y: i64, z: i64) -> Point
 
 /// The box of half axes 8,000 at the origin.
 fn cube() -> Volume
-    ensures within { IsInRange result }
-    ensures is_box { IsBox result }
+    ensures { IsBoxInRange result }
 {
     Volume::Oriented {
         centre: point(0, 0, 0),
@@ -33,7 +34,7 @@ fn ball() -> Volume
 
 /// The plane that bounds what is east of `x`.
 fn east_of(x: i64) -> Plane
-    requires { unsigned_abs x ≤ 2 ^ 57 }
+    requires { unsigned_abs x ≤ offset_limit }
     ensures { IsPlaneInRange result }
 {
     Plane {

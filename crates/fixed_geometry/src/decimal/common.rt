@@ -1,19 +1,22 @@
 //! Decimals of the common spelling: an optional minus, digits, and perhaps a point and more digits.
 
-ghost use Rattle.std.specs.Prelude.{◌≡◌, ◌≤◌, ◌<◌, ◌↔◌, ◌+◌, ◌-◌, ◌*◌, ◌^◌, ◌++◌, min, IsTrue, IfSome, length};
+ghost use Rattle.std.specs.Prelude.{◌≡◌, ◌≤◌, ◌<◌, ◌↔◌, ◌-◌, ◌*◌, ◌^◌, ◌++◌, min, length};
+ghost use Rattle.std.specs.Prelude.{IsTrue, IfSome};
 ghost use Rattle.std.specs.Char.{is_ascii_digit};
 ghost use Rattle.fixed_geometry.specs.Ascii.{digit_zero};
 ghost use Rattle.fixed_geometry.specs.Quotient.{half_size};
 ghost use Rattle.fixed_geometry.specs.Spelling.{SpellsUnsigned, sign_text};
-ghost use Rattle.fixed_geometry.specs.Decimal.{places_limit, has_minus, mantissa, fixed_size, SameUpTo};
+ghost use Rattle.fixed_geometry.specs.Decimal.{has_minus, mantissa, fixed_size};
+ghost use Rattle.fixed_geometry.specs.Decimal.{places_limit, SameUpTo};
 
 use super::{Reading, SIZE_CEILING};
 
-/// The most bytes behind the minus that are read here: their digits spell a number below 10^19, which fits
-/// 64 bits.
+/// The most bytes behind the minus that are read here: their digits spell a number below 10^19,
+/// which fits 64 bits.
 const LONGEST: usize = 19;
 
-/// The decimal in fixed places, read in one pass, or none where it is spelled otherwise or is too long.
+/// The decimal in fixed places, read in one pass, or none where it is spelled otherwise or is too
+/// long.
 pub(crate) fn read_common(text: &[u8], places: u8) -> Option<Reading>
     requires { places ≤ places_limit }
     ensures negative { IfSome result (λ r. r.negative ≡ has_minus (mantissa text.now)) }
@@ -28,7 +31,7 @@ pub(crate) fn read_common(text: &[u8], places: u8) -> Option<Reading>
     Some(Reading { negative, size })
 }
 
-/// Whether there is a minus in front, and what stands behind it.
+/// Whether the text begins with a minus sign, and what stands behind it.
 fn split_sign(text: &[u8]) -> (bool, &[u8])
     ensures { text.now ≡ sign_text result.0 ++ result.1.now }
 {
@@ -39,8 +42,8 @@ fn split_sign(text: &[u8]) -> (bool, &[u8])
     }
 }
 
-/// The number that the digits spell, and how many of them stand behind the point, or none where there is
-/// anything but digits and one point.
+/// The number that the digits spell, and how many of them stand behind the point, or none where
+/// there is anything but digits and one point.
 fn read_digits(number: &[u8]) -> Option<(u64, usize)>
     requires { length number.now ≤ LONGEST }
     ensures number { IfSome result (λ r. SpellsUnsigned number.now r.0 r.1) }
@@ -71,8 +74,8 @@ fn digit_of(byte: u8) -> u64
     u64::from(byte).wrapping_sub(u64::from(b'0'))
 }
 
-/// The size that has `value` for its digits, `fraction` of them behind the point, in fixed places, held at
-/// 64 bits.
+/// The size that has `value` for its digits, `fraction` of them behind the point, in fixed places,
+/// clamped to 64 bits.
 fn in_places(value: u64, fraction: usize, places: u8) -> u64
     requires value { value < 10 ^ LONGEST }
     requires fraction { fraction ≤ LONGEST }

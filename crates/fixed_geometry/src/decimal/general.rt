@@ -2,15 +2,16 @@
 
 ghost use Rattle.std.specs.Prelude.{◌≡◌, ◌≤◌, ◌+◌, ◌-◌, ◌*◌, ◌/◌, ◌^◌, min, if◌then◌else◌, length};
 ghost use Rattle.std.specs.List.{position_or_len};
-ghost use Rattle.fixed_geometry.specs.Decimal.{places_limit, is_point, is_exponent_mark, has_minus, mantissa};
-ghost use Rattle.fixed_geometry.specs.Decimal.{digits_value, digit_count, fixed_size, SameUpTo};
+ghost use Rattle.fixed_geometry.specs.Decimal.{is_point, is_exponent_mark, has_minus, mantissa};
+ghost use Rattle.fixed_geometry.specs.Decimal.{digits_value, digit_count, fixed_size};
+ghost use Rattle.fixed_geometry.specs.Decimal.{places_limit, SameUpTo};
 
 use super::{Reading, SIZE_CEILING};
 
-/// Exponents are held at this: no greater one changes the answer.
+/// Exponents are clamped to this: no greater one changes the answer.
 const EXPONENT_CEILING: u128 = 1 << 70;
 
-/// Ten times the size is held at this, which is more than ten times any limit.
+/// Ten times the size is clamped to this, which is more than ten times any limit.
 const TENFOLD_CEILING: u128 = 1 << 64;
 
 /// The decimal in fixed places, of any spelling.
@@ -26,10 +27,10 @@ pub(crate) fn read_general(text: &[u8], places: u8) -> Reading
     }
 }
 
-/// The size of the decimal in fixed places, held at the ceiling.
+/// The size of the decimal in fixed places, clamped to the ceiling.
 ///
-/// The digit behind the last place decides how that place is rounded, so the digits up to there are read,
-/// and no other.
+/// The digit behind the last place decides how that place is rounded, so the digits up to there are
+/// read, and no other.
 fn general_size(text: &[u8], places: u8) -> u64
     requires { places ≤ places_limit }
     ensures { result ≡ min (fixed_size text.now places) SIZE_CEILING }
@@ -89,7 +90,7 @@ fn has_minus(bytes: &[u8]) -> bool
     bytes.iter().any(|byte| *byte == b'-')
 }
 
-/// The number that the exponent's digits spell, held at the ceiling.
+/// The number that the exponent's digits spell, clamped to the ceiling.
 fn exponent_size(exponent: &[u8]) -> u128
     ensures { result ≡ min (digits_value exponent.now) EXPONENT_CEILING }
 {
@@ -115,8 +116,8 @@ fn kept_digits(room: u128, divides: bool, exponent: u128) -> u128
     }
 }
 
-/// The number that the first `keep` digits spell, with zeros behind them where there are fewer, held at the
-/// ceiling.
+/// The number that the first `keep` digits spell, with zeros behind them where there are fewer,
+/// clamped to the ceiling.
 fn leading_digits(mantissa: &[u8], keep: u128) -> u128
     ensures { let count = digit_count mantissa.now in
         let kept = digits_value mantissa.now * 10 ^ (keep - count) / 10 ^ (count - keep) in
@@ -133,7 +134,7 @@ fn leading_digits(mantissa: &[u8], keep: u128) -> u128
     padded(value, left)
 }
 
-/// `value` with `zeros` zeros behind it, held at the ceiling.
+/// `value` with `zeros` zeros behind it, clamped to the ceiling.
 fn padded(value: u128, zeros: u128) -> u128
     requires { value ≤ TENFOLD_CEILING }
     ensures { result ≡ min (value * 10 ^ zeros) TENFOLD_CEILING }

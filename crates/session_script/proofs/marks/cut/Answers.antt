@@ -1,11 +1,14 @@
 use Rattle.session_script.proofs.Parts.{cut_found, cut_parts, cut_spelled}
 use Rattle.session_script.proofs.marks.cut.Goals as goal
 
-pub returns-clause-found : goal.returns-clause-found
-returns-clause-found c = cut_found c.args.mark c.args.text.now c.split_once.result c.split_once.ensures.cases c.requires
-
-pub returns-clause-spelled : goal.returns-clause-spelled
-returns-clause-spelled c = λ first rest none e. cut_spelled c.args.mark c.args.text.now first rest c.split_once.result c.split_once.ensures.cases c.requires none e
-
-pub returns-clause-parts : goal.returns-clause-parts
-returns-clause-parts c = cut_parts c.args.mark c.args.text.now c.split_once.result c.split_once.ensures.cases c.requires
+pub returns : goal.returns
+returns c =
+    let mark = c.args.mark in
+    let text = c.args.text.now in
+    let split = c.split_once.ensures.cases in
+    record {
+      found = cut_found mark text c.split_once.result split c.requires;
+      spelled = λ first rest none e.
+          cut_spelled mark text first rest c.split_once.result split c.requires none e;
+      parts = cut_parts mark text c.split_once.result split c.requires;
+    }

@@ -1,6 +1,6 @@
 use Rattle.std.proofs.Common.{arith, ◌∙◌, ◌∷◌, ◌++◌, ap, get_or, sym, take}
 use Rattle.std.proofs.lemmas.List.{take_more}
-use Rattle.error_test.proofs.ViewLimits.{no_fault}
+use Rattle.error_test.proofs.ViewLimits.{none_past_limit}
 use Rattle.error_test.specs.Padding.{no_plane}
 use Rattle.session_script.specs.Ascii.{colon}
 use Rattle.session_script.specs.ViewTexts.{text_of_plane, text_of_view}
@@ -21,4 +21,4 @@ loop-plane-preserved c =
     ∙ ap (λ ps. text_of_view (with_planes v ps)) (sym more)))
 
 pub returns-clause-within : goal.returns-clause-within
-returns-clause-within c = no_fault c.args.view.now c.planes-plane-items.ensures.within
+returns-clause-within c = none_past_limit c.args.view.now c.planes-plane-items.ensures.within

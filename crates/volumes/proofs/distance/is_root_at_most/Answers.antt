@@ -7,7 +7,8 @@ use Rattle.volumes.proofs.distance.is_root_at_most.Goals as goal
 pub returns-in-Some : goal.returns-in-Some
 returns-in-Some c =
     let next : c.in-Some.next ≡ c.args.bound + 1 = c.in-Some.ensures.1 in
-    let square : c.squared.result ≡ squared (c.args.bound + 1) = c.squared.ensures ∙ ap squared next in
+    let square : c.squared.result ≡ squared (c.args.bound + 1) =
+    c.squared.ensures ∙ ap squared next in
     rw square (square_test c.args.n c.args.bound)
 
 pub returns-in-None : goal.returns-in-None

@@ -7,5 +7,8 @@ use Rattle.volumes.proofs.moves.moved_radius.Goals as goal
 
 pub returns-clause-same : goal.returns-clause-same
 returns-clause-same c =
-    let value : to_z w64 c.min.result ≡ pos (moved_radius (unsigned_abs c.args.radius) c.args.by.now) = grind (arith, to_z-of_z) in
-    λ same. value ∙ (ap (λ m. pos (moved_radius (unsigned_abs c.args.radius) m)) same ∙ moved_radius-identity c.args.radius c.requires.from c.requires.to)
+    let value : to_z w64 c.min.result
+    ≡ pos (moved_radius (unsigned_abs c.args.radius) c.args.by.now) =
+    grind (arith, to_z-of_z) in
+    λ same. value ∙ (ap (λ m. pos (moved_radius (unsigned_abs c.args.radius) m)) same
+    ∙ moved_radius-identity c.args.radius c.requires.from c.requires.to)

@@ -7,11 +7,13 @@ pub overflow_add-result : goal.overflow_add-result
 overflow_add-result c = fits_sum c.product.result c.product-2.result (omega arith) (omega arith)
 
 pub overflow_add-result-2 : goal.overflow_add-result-2
-overflow_add-result-2 c = fits_sum_3 c.product.result c.product-2.result c.product-3.result (omega arith) (omega arith) (omega arith)
+overflow_add-result-2 c = fits_sum_3 c.product.result c.product-2.result c.product-3.result
+    (omega arith) (omega arith) (omega arith)
 
 pub returns-clause-value : goal.returns-clause-value
 returns-clause-value c =
-    sum_3_is c.product.result c.product-2.result c.product-3.result (omega arith) (omega arith) (omega arith) ∙ grind (arith, to_z-of_z)
+    sum_3_is c.product.result c.product-2.result c.product-3.result (omega arith) (omega arith)
+    (omega arith) ∙ grind (arith, to_z-of_z)
 
 pub returns-clause-bound : goal.returns-clause-bound
 returns-clause-bound c = omega (arith, ints)

@@ -12,7 +12,8 @@ returns-in-Oriented-clause-bound c =
 pub returns-in-Ball-clause-value : goal.returns-in-Ball-clause-value
 returns-in-Ball-clause-value c =
     let n = c.squared_apart.result in
-    let test = reach_test (floor_root n) c.unsigned_abs.result c.args.bound (root_fits n c.squared_apart.type_inv) in
+    let test = reach_test (floor_root n) c.unsigned_abs.result c.args.bound
+    (root_fits n c.squared_apart.type_inv) in
     grind (arith, common_steps)
 
 pub returns-in-Ball-clause-bound : goal.returns-in-Ball-clause-bound
