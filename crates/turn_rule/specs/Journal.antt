@@ -1,5 +1,6 @@
 -- Words of journals. A journal is a list of entries, and an entry may name the pass that made it.
-use Rattle.std.specs.Prelude.{◌≡◌, ℕ, Bool, false, List, [], ◌∷◌, length, Option, Some, None, is_some, nat_eq, nat_lt, filter, Contains, if◌then◌else◌}
+use Rattle.std.specs.Prelude.{◌≡◌, ℕ, Bool, false, List, [], ◌∷◌, length, Option, Some, None}
+use Rattle.std.specs.Prelude.{is_some, nat_eq, nat_lt, filter, Contains, if◌then◌else◌}
 
 module _ {E : Type 0} where
   -- no entry, or one

@@ -1,5 +1,6 @@
 -- Views of seats: what each seat of the table knows, and how a step changes it.
-use Rattle.std.specs.Prelude.{◌≡◌, ℕ, ◌+◌, ◌<◌, true, false, List, [], ◌∷◌, ◌++◌, length, Option, Some, None, nat_eq, if◌then◌else◌}
+use Rattle.std.specs.Prelude.{◌≡◌, ◌⊎◌, ℕ, ◌+◌, ◌<◌, true, false, List, [], ◌∷◌, ◌++◌, length}
+use Rattle.std.specs.Prelude.{Option, Some, None, Contains, nat_eq, if◌then◌else◌}
 use Rattle.atomic_table.specs.Seated.{TableId}
 use Rattle.turn_rule.specs.declared.view.View.{View}
 use Rattle.turn_rule.specs.Journal.{longer, entries_of}
@@ -40,6 +41,10 @@ module _ {E B : Type 0} where
   abbrev pub accounts : View E B → List (ℕ × List E)
   accounts v = own_account v.number v.own ++ v.ended
 
+  -- the seat answers for the number n: it has it, or a pass that had it was joined into it
+  abbrev pub AnswersForNumber : View E B → ℕ → Type 0
+  AnswersForNumber v n = (v.number ≡ Some n) ⊎ ((l : List E) × Contains v.ended (n, l))
+
   -- a pass, as contracts see it, by its table, its view and its parts of the ledger
   abbrev pub known : TableId → View E B → ℕ → ℕ → Known E B
   known table v number parts = record {
@@ -72,18 +77,7 @@ module _ {E B : Type 0} where
 
   -- a seat that was joined into another
   abbrev pub spent_view : View E B
-  spent_view = record {
-    number = None;
-    drawn = 0;
-    seen = [];
-    own = [];
-    ended = [];
-    held = None;
-    misses = 0;
-    spent = true;
-    library = None;
-    room = 0;
-  }
+  spent_view = record (new_view None [] None 0) { spent = true }
 
   -- the seat took the turn, at this journal
   abbrev pub holder_view : View E B → List E → View E B

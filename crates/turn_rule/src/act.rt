@@ -1,3 +1,5 @@
+//! The trait of acts.
+
 ghost use Rattle.std.specs.Prelude.{◌≡◌, ◌++◌, ℕ, List, Option};
 ghost use Rattle.turn_rule.specs.Journal.{IsBy, IsLawful, list_of};
 

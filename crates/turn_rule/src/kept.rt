@@ -1,3 +1,5 @@
+//! The trait of a state behind a turn.
+
 ghost use Rattle.std.specs.Prelude.{◌≡◌, ℕ, length, List, Option};
 
 /// A state with a journal, which passes take in turn. Its ghost members are meanings: the turn's

@@ -1,3 +1,5 @@
+//! The type of a pass, and the two refusals of a turn: Busy and SplitError.
+
 ghost use Rattle.std.specs.Prelude.{◌≡◌};
 
 use crate::kept::Kept;

@@ -1,5 +1,6 @@
-// What the calls of a turn do to its table, kind of step by kind of step. These functions take the
-// parts of a pass, since a pass keeps its own facts only between calls.
+//! What the calls of a turn do to its table, kind of step by kind of step. These functions take the
+//! parts of a pass, since a pass keeps its own facts only between calls.
+
 ghost use Rattle.std.specs.Prelude.{◌≡◌, ◌+◌, ◌<◌, ◌≤◌, ◌^◌, ℕ, false, [], length, None, Some};
 ghost use Rattle.std.specs.Prelude.{IfOk, OnOk, IfErr};
 ghost use Rattle.turn_rule.specs.Journal.{IsLawful, entries_of, named_count};
