@@ -1,3 +1,3 @@
 mod AddressPaths
 mod LastFile
-pub mod Fronts
+mod Prefixes

@@ -1,6 +1,6 @@
-pub mod Faults
+pub mod Counts
+pub mod Fetches
 pub mod Library
 pub mod Memory
 pub mod Paths
-pub mod Written
-pub mod Texts
+pub mod Puts

@@ -1,16 +1,12 @@
 -- Sources and sinks in memory: what each call answers, and what it leaves.
-use Rattle.std.specs.Prelude.{◌≡◌, ℕ, ◌+◌, List, [], ◌++◌, length, Bool, true, false, ◌==◌, nat_lt, min, Option, Some, None, Result, Ok, Err, if◌then◌else◌}
+use Rattle.std.specs.Prelude.{◌≡◌, ℕ, ◌+◌, List, [], ◌++◌, length, Bool, true, false, ◌==◌, nat_lt, Option, Some, None, Result, Ok, Err, if◌then◌else◌}
 use Rattle.std.specs.List.{list_any}
-use Rattle.source_port.specs.Faults.{last_count}
+use Rattle.source_port.specs.Counts.{next_count}
 use Rattle.source_port.specs.Library.{Library, bytes_at}
 use Rattle.source_port.specs.declared.source.FetchError.{FetchError}
 use Rattle.source_port.specs.declared.source.FetchError.TheVariants as fetches
 use Rattle.source_port.specs.declared.sink.PutError.{PutError}
 use Rattle.source_port.specs.declared.sink.PutError.TheVariants as puts
-
--- the next number of a count, which stands still at its last value
-abbrev pub next_count : ℕ → ℕ
-next_count count = min (count + 1) last_count
 
 abbrev pub is_listed : List ℕ → ℕ → Bool
 is_listed numbers number = list_any (λ n. n == number) numbers
@@ -55,6 +51,14 @@ after_fetch source =
       faults = if fails_next source then next_count source.faults else source.faults;
     }
 
+-- a steady source: its library, and how many fetches were numbered
+pub record SteadyParts : Type 0 where
+  pub files : Library
+  pub fetched : ℕ
+
+abbrev pub new_steady : Library → SteadyParts
+new_steady files = record { files = files; fetched = 0 }
+
 -- the fetch answered so, unless memory ran out
 abbrev pub Gives : Result (Unit {0}) FetchError → List ℕ → Answer → Type 0
 Gives (Ok done) into answer = answer ≡ found into
@@ -63,13 +67,13 @@ Gives (Err fetches.TooLong) into answer = answer ≡ too_long
 Gives (Err fetches.Failed) into answer = answer ≡ failed
 Gives (Err fetches.OutOfMemory) into answer = Unit {0}
 
--- a fetch takes a number, unless memory ran out
-abbrev pub TakesNumber : Result (Unit {0}) FetchError → MemoryParts → MemoryParts → Type 0
-TakesNumber (Ok done) old new = new ≡ after_fetch old
-TakesNumber (Err fetches.Missing) old new = new ≡ after_fetch old
-TakesNumber (Err fetches.TooLong) old new = new ≡ after_fetch old
-TakesNumber (Err fetches.Failed) old new = new ≡ after_fetch old
-TakesNumber (Err fetches.OutOfMemory) old new = new ≡ old
+-- a fetch takes a number, unless memory ran out: the source is then this one
+abbrev pub TakesNumber : {S : Type 0} → Result (Unit {0}) FetchError → S → S → S → Type 0
+TakesNumber (Ok done) old after new = new ≡ after
+TakesNumber (Err fetches.Missing) old after new = new ≡ after
+TakesNumber (Err fetches.TooLong) old after new = new ≡ after
+TakesNumber (Err fetches.Failed) old after new = new ≡ after
+TakesNumber (Err fetches.OutOfMemory) old after new = new ≡ old
 
 -- a sink: what it holds, the numbers of the puts that fail, how many puts were numbered, and how many failed
 pub record SinkParts : Type 0 where

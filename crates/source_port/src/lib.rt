@@ -1,34 +1,31 @@
-//! The outside of the engine, as the layers above see it: texts and keys, jobs and wants, sources that
-//! bytes are fetched from and sinks that bytes are put to.
+//! The outside of the engine, as the layers above see it: sources that bytes are fetched from and sinks
+//! that bytes are put to. The types that all layers share are handed on.
 #![tactic(auto)]
 
+mod counts;
 mod files;
-mod job;
-mod key;
 mod library;
 mod memory_sink;
 mod memory_source;
+mod paths;
+mod reading;
 mod sink;
 mod source;
 mod standard_output;
 mod steady_source;
-mod steps;
-mod text;
-mod want;
 
 pub use files::DirSource;
-pub use job::Job;
-pub use key::{Key, Kind, Refine};
-pub use library::{FileList, KeyList, NamedFile, NumberList, TextList};
+pub use library::{FileList, NamedFile};
 pub use memory_sink::MemorySink;
 pub use memory_source::MemorySource;
 pub use sink::{PutError, Sink};
 pub use source::{FetchError, LibraryName, Source};
 pub use standard_output::StdSink;
 pub use steady_source::SteadySource;
-pub use steps::Steps;
-pub use text::Text;
-pub use want::{Order, TileFacts, Want, WantList};
+pub use tile_types::{
+    Job, Key, KeyList, Kind, NumberList, Order, Refine, Steps, Text, TextList, TileFacts, Want,
+    WantList,
+};
 
 #[cfg(test)]
 mod tests;

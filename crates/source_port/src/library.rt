@@ -1,7 +1,8 @@
-use crate::key::Key;
-use crate::text::Text;
+//! Files of a library.
+
 use bytes::Bytes;
-use sqlite_items::Items;
+use lists::List;
+use tile_types::Text;
 
 /// A file of a library: its address and its bytes.
 #[derive(Debug, Drop)]
@@ -11,13 +12,4 @@ pub struct NamedFile {
 }
 
 /// Files, of which the last of an address counts.
-pub type FileList = Items<NamedFile>;
-
-/// Numbers, in order.
-pub type NumberList = Items<u64>;
-
-/// Texts, in order.
-pub type TextList = Items<Text>;
-
-/// Keys, in order.
-pub type KeyList = Items<Key>;
+pub type FileList = List<NamedFile>;

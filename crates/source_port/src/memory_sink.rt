@@ -1,14 +1,14 @@
-ghost use Rattle.std.specs.Prelude.{◌≡◌, ◌≤◌, Some, OnOk, OnErr};
-ghost use Rattle.std.specs.Io.KnownBytes.{Appends, Keeps};
-ghost use Rattle.source_port.specs.Faults.{HasRisen};
-ghost use Rattle.source_port.specs.Memory.{new_sink, Puts};
-ghost use Rattle.source_port.specs.Written.{AppendsPrefix};
+//! A sink in memory, of which chosen puts fail.
 
-use crate::library::NumberList;
+ghost use Rattle.std.specs.Prelude.{◌≡◌, Some};
+ghost use Rattle.source_port.specs.Memory.{new_sink, Puts};
+ghost use Rattle.source_port.specs.Puts.{CountsPut, RisesAtFailure, Writes};
+
 use crate::memory_source::lists;
 use crate::sink::{PutError, Sink};
 use std::alloc::Global;
 use std::marker::Model;
+use tile_types::NumberList;
 
 /// A sink in memory, which tells what it holds. It numbers its puts from 1, and exactly those whose number is
 /// listed fail and append nothing; a put that finds no memory takes no number.
@@ -59,17 +59,15 @@ impl Sink for MemorySink {
 
     ghost faults = { λ s. s.faults };
 
+    ghost puts = { λ s. s.puts };
+
     fn put(&mut self, _alloc: Global, piece: &[u8]) -> Result<(), PutError>
         ensures exact { Puts result self.old self.new piece.now }
 
         // What every sink ensures.
-        ensures bytes { OnOk result (Appends (Some self.old.bytes) (Some self.new.bytes) piece.now) }
-        ensures refused { OnErr result (AppendsPrefix (Some self.old.bytes) (Some self.new.bytes) piece.now) }
-        ensures failed { result ≡ Err PutError.SinkFailed → HasRisen self.old.faults self.new.faults }
-        ensures unwritten { result ≡ Err PutError.OutOfMemory
-            → Keeps (Some self.old.bytes) (Some self.new.bytes) }
-        ensures uncounted { result ≡ Err PutError.OutOfMemory → self.new.faults ≡ self.old.faults }
-        ensures never_falls { self.old.faults ≤ self.new.faults }
+        ensures written { Writes result (Some self.old.bytes) (Some self.new.bytes) piece.now }
+        ensures faults { RisesAtFailure result self.old.faults self.new.faults }
+        ensures puts { CountsPut result self.old.puts self.new.puts }
     {
         let number = self.puts.saturating_add(1);
         if lists(&self.failing, number) {

@@ -1,16 +1,17 @@
-ghost use Rattle.std.specs.Prelude.{◌≡◌, ℕ, ◌≤◌, ◌∷◌, ◌++◌, [], List, Some};
-ghost use Rattle.std.specs.Prelude.{OnOk, OnErr, IfOk, length, option_map};
-ghost use Rattle.source_port.specs.Faults.{HasRisen};
-ghost use Rattle.source_port.specs.Library.{HasBytes, Lacks, PassesLimit, bytes_at};
-ghost use Rattle.source_port.specs.Memory.{new_source, numbered_answer, answer_of, is_listed};
-ghost use Rattle.source_port.specs.Memory.{next_count, Gives, TakesNumber};
+//! A source in memory, of which chosen fetches fail.
 
-use crate::library::{FileList, NamedFile, NumberList};
+ghost use Rattle.std.specs.Prelude.{◌≡◌, ◌∷◌, ◌++◌, [], Some, OnOk, OnErr, IfOk, option_map};
+ghost use Rattle.source_port.specs.Fetches.{Answers, CountsFetch, RisesAtFailure};
+ghost use Rattle.source_port.specs.Library.{bytes_at};
+ghost use Rattle.source_port.specs.Memory.{new_source, numbered_answer, after_fetch, answer_of};
+ghost use Rattle.source_port.specs.Memory.{is_listed, Gives, TakesNumber};
+
+use crate::library::{FileList, NamedFile};
 use crate::source::{FetchError, LibraryName, Source};
-use crate::text::Text;
 use bytes::Bytes;
 use std::alloc::{AllocError, Global};
 use std::marker::Model;
+use tile_types::{NumberList, Text};
 
 /// A source in memory that tells its library. It numbers its own fetches from 1, and exactly those whose
 /// number is listed fail; a fetch that finds no memory takes no number.
@@ -66,6 +67,8 @@ impl LibraryName for MemorySource {
 impl Source for MemorySource {
     ghost faults = { λ s. s.faults };
 
+    ghost fetches = { λ s. s.fetched };
+
     fn fetch(
         &mut self,
         alloc: Global,
@@ -73,18 +76,14 @@ impl Source for MemorySource {
         limit: u32,
         into: &mut Vec<u8>,
     ) -> Result<(), FetchError>
-        ensures answer { Gives result into.new.items (numbered_answer self.old address.now limit) }
-        ensures number { TakesNumber result self.old self.new }
+        ensures exact { Gives result into.new.items (numbered_answer self.old address.now limit) }
+        ensures number { TakesNumber result self.old (after_fetch self.old) self.new }
 
         // What every source ensures.
-        ensures bytes { OnOk result (HasBytes (Some self.old.files) address.now into.new.items) }
-        ensures within { OnOk result (length into.new.items ≤ limit) }
+        ensures answer { Answers result (Some self.old.files) address.now limit into.new.items }
         ensures refused { OnErr result (into.new.items ≡ into.old.items) }
-        ensures missing { result ≡ Err FetchError.Missing → Lacks (Some self.old.files) address.now }
-        ensures too_long { result ≡ Err FetchError.TooLong
-            → PassesLimit (Some self.old.files) address.now limit }
-        ensures failed { result ≡ Err FetchError.Failed → HasRisen self.old.faults self.new.faults }
-        ensures never_falls { self.old.faults ≤ self.new.faults }
+        ensures faults { RisesAtFailure result self.old.faults self.new.faults }
+        ensures fetches { CountsFetch result self.old.fetched self.new.fetched }
         ensures library { self.new.files ≡ self.old.files }
     {
         let number = self.fetched.saturating_add(1);

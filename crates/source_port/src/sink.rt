@@ -1,7 +1,7 @@
-ghost use Rattle.std.specs.Prelude.{◌≡◌, ℕ, ◌≤◌, List, Option, OnOk, OnErr};
-ghost use Rattle.std.specs.Io.KnownBytes.{Appends, Keeps};
-ghost use Rattle.source_port.specs.Faults.{HasRisen};
-ghost use Rattle.source_port.specs.Written.{AppendsPrefix};
+//! What a sink is.
+
+ghost use Rattle.std.specs.Prelude.{◌≡◌, ℕ, List, Option};
+ghost use Rattle.source_port.specs.Puts.{CountsPut, RisesAtFailure, Writes};
 
 use std::alloc::Global;
 use thiserror::Error;
@@ -25,15 +25,14 @@ pub trait Sink {
     /// How many puts failed by the sink's own fault.
     ghost faults: { Self → ℕ };
 
+    /// How many puts were made, but for those that found no memory.
+    ghost puts: { Self → ℕ };
+
     /// Puts a piece behind what the sink holds.
     fn put(&mut self, alloc: Global, piece: &[u8]) -> Result<(), PutError>
-        ensures bytes { OnOk result (Appends (written self.old) (written self.new) piece.now) }
-        ensures refused { OnErr result (AppendsPrefix (written self.old) (written self.new) piece.now) }
-        ensures failed { result ≡ Err PutError.SinkFailed → HasRisen (faults self.old) (faults self.new) }
-        ensures unwritten { result ≡ Err PutError.OutOfMemory
-            → Keeps (written self.old) (written self.new) }
-        ensures uncounted { result ≡ Err PutError.OutOfMemory → faults self.new ≡ faults self.old }
-        ensures never_falls { faults self.old ≤ faults self.new };
+        ensures written { Writes result (written self.old) (written self.new) piece.now }
+        ensures faults { RisesAtFailure result (faults self.old) (faults self.new) }
+        ensures puts { CountsPut result (puts self.old) (puts self.new) };
 
     /// How many puts failed by the sink's own fault.
     fn faults(&self) -> u64

@@ -1,6 +1,8 @@
-ghost use Rattle.std.specs.Prelude.{◌≡◌, ℕ, ◌≤◌, Option, IfOk, OnOk, OnErr, length};
-ghost use Rattle.source_port.specs.Library.{Library, HasBytes, Lacks, PassesLimit};
-ghost use Rattle.source_port.specs.Faults.{HasRisen};
+//! What a source is.
+
+ghost use Rattle.std.specs.Prelude.{◌≡◌, ℕ, Option, IfOk, OnErr};
+ghost use Rattle.source_port.specs.Fetches.{Answers, CountsFetch, RisesAtFailure};
+ghost use Rattle.source_port.specs.Library.{Library};
 
 use std::alloc::{AllocError, Global};
 use thiserror::Error;
@@ -33,6 +35,9 @@ pub trait Source: LibraryName + Sized {
     /// How many fetches failed by the source's own fault.
     ghost faults: { Self → ℕ };
 
+    /// How many fetches were answered, but for those that found no memory.
+    ghost fetches: { Self → ℕ };
+
     /// Puts the bytes at an address into `into`, at most `limit` of them.
     fn fetch(
         &mut self,
@@ -41,20 +46,17 @@ pub trait Source: LibraryName + Sized {
         limit: u32,
         into: &mut Vec<u8>,
     ) -> Result<(), FetchError>
-        ensures bytes { OnOk result (HasBytes (Self.library self.old) address.now into.new.items) }
-        ensures within { OnOk result (length into.new.items ≤ limit) }
+        ensures answer { Answers result (Self.library self.old) address.now limit into.new.items }
         ensures refused { OnErr result (into.new.items ≡ into.old.items) }
-        ensures missing { result ≡ Err FetchError.Missing → Lacks (Self.library self.old) address.now }
-        ensures too_long { result ≡ Err FetchError.TooLong
-            → PassesLimit (Self.library self.old) address.now limit }
-        ensures failed { result ≡ Err FetchError.Failed → HasRisen (faults self.old) (faults self.new) }
-        ensures never_falls { faults self.old ≤ faults self.new }
+        ensures faults { RisesAtFailure result (faults self.old) (faults self.new) }
+        ensures fetches { CountsFetch result (fetches self.old) (fetches self.new) }
         ensures library { Self.library self.new ≡ Self.library self.old };
 
-    /// Another source of the same library, whose count of faults begins at 0.
+    /// Another source of the same library, whose counts begin at 0.
     fn fork(&self, alloc: Global) -> Result<Self, AllocError>
         ensures library { IfOk result (λ s. Self.library s ≡ Self.library self.now) }
-        ensures faults { IfOk result (λ s. faults s ≡ 0) };
+        ensures faults { IfOk result (λ s. faults s ≡ 0) }
+        ensures fetches { IfOk result (λ s. fetches s ≡ 0) };
 
     /// How many fetches failed by the source's own fault.
     fn faults(&self) -> u64

@@ -1,9 +1,11 @@
-ghost use Rattle.std.specs.Prelude.{◌≡◌, ◌≢◌, ◌≤◌, None, OnOk, OnErr};
-ghost use Rattle.std.specs.Io.KnownBytes.{Appends, Keeps};
-ghost use Rattle.source_port.specs.Faults.{HasRisen};
-ghost use Rattle.source_port.specs.Memory.{next_count};
-ghost use Rattle.source_port.specs.Written.{AppendsPrefix};
+//! Standard output as a sink.
 
+ghost use Rattle.std.specs.Prelude.{◌≡◌, None};
+ghost use Rattle.std.specs.Bool.{OnTrue};
+ghost use Rattle.std.specs.Io.KnownBytes.{Appends};
+ghost use Rattle.source_port.specs.Puts.{CountsExactly, CountsPut, RisesAtFailure, Writes};
+
+use crate::counts::CallCounts;
 use crate::sink::{PutError, Sink};
 use std::alloc::Global;
 use std::io;
@@ -14,25 +16,29 @@ use std::marker::Model;
 #[derive(Drop)]
 pub struct StdSink<R> {
     rt: R,
-    faults: u64,
+    counts: CallCounts,
 }
 
 impl<R> Model for StdSink<R> {
-    ghost use Rattle.std.specs.Prelude.{ℕ};
+    ghost use Rattle.source_port.specs.Counts.{Counts};
 
-    ghost Value = { ℕ };
+    ghost Value = { Counts };
 
-    ghost view = { λ s. s.faults };
+    ghost view = { λ s. s.counts };
 }
 
 impl<R: Print + Drop> StdSink<R> {
     ghost use Rattle.std.specs.Prelude.{◌≡◌};
+    ghost use Rattle.source_port.specs.Counts.{no_calls};
 
-    /// A sink that prints by this runtime. Contracts see it as its count of faults.
+    /// A sink that prints by this runtime. Contracts see it as its counts.
     pub fn new(rt: R) -> StdSink<R>
-        ensures { result ≡ 0 }
+        ensures { result ≡ no_calls }
     {
-        StdSink { rt, faults: 0 }
+        StdSink {
+            rt,
+            counts: CallCounts::new(),
+        }
     }
 }
 
@@ -41,30 +47,34 @@ impl<R: Print + Drop> Sink for StdSink<R> {
 
     ghost written = { λ _. None };
 
-    ghost faults = { λ s. s };
+    ghost faults = { λ s. s.faults };
+
+    ghost puts = { λ s. s.calls };
 
     fn put(&mut self, _alloc: Global, piece: &[u8]) -> Result<(), PutError>
-        ensures counted { result ≡ Err PutError.SinkFailed → self.new ≡ next_count self.old }
-        ensures uncounted { result ≢ Err PutError.SinkFailed → self.new ≡ self.old }
-        ensures needs_no_memory { result ≢ Err PutError.OutOfMemory }
+        ensures counted { CountsExactly result self.old self.new }
 
         // What every sink ensures.
-        ensures bytes { OnOk result (Appends None None piece.now) }
-        ensures refused { OnErr result (AppendsPrefix None None piece.now) }
-        ensures failed { result ≡ Err PutError.SinkFailed → HasRisen self.old self.new }
-        ensures unwritten { result ≡ Err PutError.OutOfMemory → Keeps None None }
-        ensures never_falls { self.old ≤ self.new }
+        ensures written { Writes result None None piece.now }
+        ensures faults { RisesAtFailure result self.old.faults self.new.faults }
+        ensures puts { CountsPut result self.old.calls self.new.calls }
     {
-        match io::writer(&self.rt).write_all(piece) {
-            Ok(()) => Ok(()),
-            Err(_) => {
-                self.faults = self.faults.saturating_add(1);
-                Err(PutError::SinkFailed)
-            }
+        if write_whole(&mut io::writer(&self.rt), piece) {
+            self.counts.count_call();
+            return Ok(());
         }
+        self.counts.count_fault();
+        Err(PutError::SinkFailed)
     }
 
     fn faults(&self) -> u64 {
-        self.faults
+        self.counts.faults
     }
+}
+
+/// Writes a piece, and answers whether all of it was written.
+fn write_whole<W: Write>(writer: &mut W, piece: &[u8]) -> bool
+    ensures { OnTrue result (Appends (W.contents writer.old) (W.contents writer.new) piece.now) }
+{
+    writer.write_all(piece).is_ok()
 }

@@ -1,7 +1,9 @@
-ghost use Rattle.std.specs.Prelude.{◌≡◌, ◌≤◌, Some, OnOk, OnErr, IfOk, length, ◌≢◌, ℕ};
-ghost use Rattle.source_port.specs.Faults.{HasRisen};
-ghost use Rattle.source_port.specs.Library.{HasBytes, Lacks, PassesLimit};
-ghost use Rattle.source_port.specs.Memory.{answer_of, Gives};
+//! A source in memory that never fails.
+
+ghost use Rattle.std.specs.Prelude.{◌≡◌, ◌≢◌, Some, OnErr, IfOk};
+ghost use Rattle.source_port.specs.Counts.{next_count};
+ghost use Rattle.source_port.specs.Fetches.{Answers, CountsFetch, RisesAtFailure};
+ghost use Rattle.source_port.specs.Memory.{answer_of, new_steady, Gives};
 
 use crate::library::FileList;
 use crate::memory_source::{copy_files, fetch_from};
@@ -13,31 +15,34 @@ use std::marker::Model;
 #[derive(Drop)]
 pub struct SteadySource {
     files: FileList,
+    fetched: u64,
 }
 
 impl Model for SteadySource {
-    ghost use Rattle.source_port.specs.Library.{Library};
+    ghost use Rattle.source_port.specs.Memory.{SteadyParts};
 
-    ghost Value = { Library };
+    ghost Value = { SteadyParts };
 
-    ghost view = { λ s. s.files };
+    ghost view = { λ s. record { files = s.files; fetched = s.fetched } };
 }
 
 impl SteadySource {
     /// A source of these files.
     pub fn new(files: FileList) -> SteadySource
-        ensures { result ≡ files }
+        ensures { result ≡ new_steady files }
     {
-        SteadySource { files }
+        SteadySource { files, fetched: 0 }
     }
 }
 
 impl LibraryName for SteadySource {
-    ghost library = { λ s. Some s };
+    ghost library = { λ s. Some s.files };
 }
 
 impl Source for SteadySource {
     ghost faults = { λ _. 0 };
+
+    ghost fetches = { λ s. s.fetched };
 
     fn fetch(
         &mut self,
@@ -46,28 +51,27 @@ impl Source for SteadySource {
         limit: u32,
         into: &mut Vec<u8>,
     ) -> Result<(), FetchError>
-        ensures answer { Gives result into.new.items (answer_of self.old address.now limit) }
+        ensures exact { Gives result into.new.items (answer_of self.old.files address.now limit) }
         ensures steady { result ≢ Err FetchError.Failed }
 
         // What every source ensures.
-        ensures bytes { OnOk result (HasBytes (Some self.old) address.now into.new.items) }
-        ensures within { OnOk result (length into.new.items ≤ limit) }
+        ensures answer { Answers result (Some self.old.files) address.now limit into.new.items }
         ensures refused { OnErr result (into.new.items ≡ into.old.items) }
-        ensures missing { result ≡ Err FetchError.Missing → Lacks (Some self.old) address.now }
-        ensures too_long { result ≡ Err FetchError.TooLong → PassesLimit (Some self.old) address.now limit }
-        ensures failed { result ≡ Err FetchError.Failed → HasRisen 0 0 }
-        ensures never_falls { 0 ≤ 0 }
-        ensures library { self.new ≡ self.old }
+        ensures faults { RisesAtFailure result 0 0 }
+        ensures fetches { CountsFetch result self.old.fetched self.new.fetched }
+        ensures library { self.new.files ≡ self.old.files }
     {
-        fetch_from(alloc, &self.files, address, limit, into)
+        let answer = fetch_from(alloc, &self.files, address, limit, into);
+        if answer != Err(FetchError::OutOfMemory) {
+            self.fetched = self.fetched.saturating_add(1);
+        }
+        answer
     }
 
     fn fork(&self, alloc: Global) -> Result<SteadySource, AllocError>
-        ensures { IfOk result (λ s. s ≡ self.now) }
+        ensures { IfOk result (λ s. s ≡ new_steady self.now.files) }
     {
-        Ok(SteadySource {
-            files: copy_files(alloc, &self.files)?,
-        })
+        Ok(SteadySource::new(copy_files(alloc, &self.files)?))
     }
 
     fn faults(&self) -> u64 {

@@ -1,7 +1,11 @@
+//! What no clause says of sources and sinks.
+
 use super::*;
-use crate::files::read_within;
+use crate::reading::read_within;
 use bytes::Bytes;
 use std::alloc::{AllocError, Global};
+use std::fs;
+use std::rt::Files;
 use std::test::Fail;
 
 /// A list of the files `a` = `abc`, `b` = `hello` and, behind them, `a` = `x`.
@@ -20,40 +24,6 @@ fn numbers(alloc: Global, number: u64) -> Result<NumberList, AllocError> {
     let mut numbers = NumberList::new(alloc);
     numbers.push(number)?;
     Ok(numbers)
-}
-
-#[test]
-fn texts(rt: HostRuntime) -> Result<(), Fail> {
-    let alloc = rt.alloc();
-    let long = "a text of more bytes than lie in the value itself";
-    for text in ["", "r/0", long] {
-        let copy = Text::new(alloc, text)?.copy(alloc)?;
-        assert_eq!(rt; copy.as_str(), text);
-        assert!(rt; copy == Text::new(alloc, text)?);
-    }
-    assert!(rt; Text::new(alloc, "r/0")? != Text::new(alloc, "r/1")?);
-    Ok(())
-}
-
-#[test]
-fn texts_behind_each_other(rt: HostRuntime) -> Result<(), Fail> {
-    let alloc = rt.alloc();
-    for (front, more, whole) in [
-        ("", "", ""),
-        ("r", "/0", "r/0"),
-        ("22 bytes fit into this", "", "22 bytes fit into this"),
-        ("21 bytes are in this.", "!", "21 bytes are in this.!"),
-        ("22 bytes fit into this", "!", "22 bytes fit into this!"),
-        (
-            "a",
-            " text that has to lie on the heap",
-            "a text that has to lie on the heap",
-        ),
-    ] {
-        let text = Text::new(alloc, front)?.followed_by(alloc, more)?;
-        assert_eq!(rt; text.as_str(), whole);
-    }
-    Ok(())
 }
 
 #[test]
@@ -129,25 +99,81 @@ fn a_memory_sink_fails_by_number(rt: HostRuntime) -> Result<(), Fail> {
     Ok(())
 }
 
+/// Fetches what the last part of an address names, from a file source with a limit of 5 bytes.
+fn fetch_file<R: Files + Clone + Drop + AllocGlobal>(
+    rt: &R,
+    source: &mut DirSource<R>,
+    address: &str,
+    into: &mut Vec<u8>,
+) -> Result<(), FetchError> {
+    source.fetch(rt.alloc(), address, 5, into)
+}
+
 #[test]
-fn no_path_leaves_the_folder(rt: HostRuntime) -> Result<(), Fail> {
-    let alloc = rt.alloc();
-    let mut source = DirSource::new(rt);
-    let mut into = Vec::new(alloc);
-    for address in [
-        "http://tiles/no-such-file.json",
-        "http://tiles/../t.json",
-        "http://tiles/a//b",
-        "http://tiles/",
-        "http://tiles/%74",
-        "file:///etc/passwd",
+fn files_below_the_folder(rt: HostRuntime) -> Result<(), Fail> {
+    let folder = "source_port_test";
+    drop(fs::remove_dir_all(&rt, folder));
+    fs::create_dir(&rt, folder)?;
+    for (path, bytes) in [
+        ("source_port_test/empty", ""),
+        ("source_port_test/five", "hello"),
+        ("source_port_test/six", "hello!"),
     ] {
-        assert_eq!(rt;
-            source.fetch(alloc, address, 9, &mut into),
-            Err(FetchError::Missing)
-        );
+        fs::write(&rt, path, bytes)?;
     }
-    assert_eq!(rt; source.fork(alloc)?.faults(), 0);
+    let mut source = DirSource::new(rt.clone()?);
+    for (address, answer, faults) in [
+        ("http://tiles/source_port_test/empty", Ok(()), 0),
+        ("http://tiles/source_port_test/five?a#b", Ok(()), 0),
+        (
+            "http://tiles/source_port_test/six",
+            Err(FetchError::TooLong),
+            0,
+        ),
+        (
+            "http://tiles/source_port_test/seven",
+            Err(FetchError::Missing),
+            0,
+        ),
+        (
+            "http://tiles/source_port_test/../source_port_test/five",
+            Err(FetchError::Missing),
+            0,
+        ),
+        (
+            "http://tiles/source_port_test//five",
+            Err(FetchError::Missing),
+            0,
+        ),
+        ("http://tiles/", Err(FetchError::Missing), 0),
+        (
+            "http://tiles/%73ource_port_test/five",
+            Err(FetchError::Missing),
+            0,
+        ),
+        ("file:///etc/passwd", Err(FetchError::Missing), 0),
+        // A folder, and a path through a file.
+        ("http://tiles/source_port_test", Err(FetchError::Failed), 1),
+        (
+            "http://tiles/source_port_test/five/six",
+            Err(FetchError::Failed),
+            2,
+        ),
+    ] {
+        let mut into = Vec::new(rt.alloc());
+        assert_eq!(rt;
+            fetch_file(&rt, &mut source, address, &mut into),
+            answer,
+            "{address}"
+        );
+        assert_eq!(rt; source.faults(), faults, "{address}");
+    }
+    let mut into = Vec::from_slice(rt.alloc(), b"old")?;
+    let five = "http://tiles/source_port_test/five";
+    assert_eq!(rt; fetch_file(&rt, &mut source, five, &mut into), Ok(()));
+    assert_eq!(rt; into.as_slice(), b"hello".as_slice());
+    assert_eq!(rt; source.fork(rt.alloc())?.faults(), 0);
+    fs::remove_dir_all(&rt, folder)?;
     Ok(())
 }
 

@@ -1,6 +1,6 @@
 use Rattle.std.proofs.Common.{◌≡◌, ◌<◌, List, ℕ, length, IfSome, arith, subst}
-use Rattle.source_port.proofs.Fronts.{whole_front}
-use Rattle.source_port.proofs.files.read_within.Goals as goal
+use Rattle.source_port.proofs.Prefixes.{whole_prefix}
+use Rattle.source_port.proofs.reading.read_within.Goals as goal
 
 pub returns-clause-bytes : goal.returns-clause-bytes
 returns-clause-bytes g c =
@@ -8,4 +8,4 @@ returns-clause-bytes g c =
     let fewer : length read < c.take-front.result.limit =
     omega (arith, c.take-front.ensures.limit, c.from-most.ensures, c.len.ensures, c.if-len-limit.false) in
     subst (λ r. IfSome (g.R.Read.remaining r) (λ left. read ≡ left)) c.take-front.ensures.inner
-    (whole_front _ _ read _ c.in-Ok.ensures.items fewer c.in_default-read_to_end.ensures.bytes)
+    (whole_prefix _ _ read _ c.in-Ok.ensures.items fewer c.in_default-read_to_end.ensures.bytes)

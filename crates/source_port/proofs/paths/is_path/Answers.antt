@@ -2,7 +2,7 @@ use Rattle.std.proofs.Common.{rules, tests, lit<}
 use Rattle.std.proofs.lemmas.Iterator.Search.{all_from_yields_List}
 use Rattle.std.proofs.lemmas.Iterator.Splits.{YieldsList-from_str_split}
 use Rattle.source_port.specs.Paths.{is_name}
-use Rattle.source_port.proofs.files.is_path.Goals as goal
+use Rattle.source_port.proofs.paths.is_path.Goals as goal
 
 pub returns : goal.returns
 returns c = all_from_yields_List is_name _ _ c.all.result c.all.ensures.ran (YieldsList-from_str_split 0x2F c.args.path.now (lit< tt) c.split.ensures.text c.split.ensures.has_more c.split.ensures.pattern) (λ x b q k. search (rules, tests))

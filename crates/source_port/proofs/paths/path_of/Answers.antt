@@ -2,7 +2,7 @@ use Rattle.std.proofs.Common.{◌∙◌, ap, sym, ◌++◌}
 use Rattle.std.specs.Prelude.{codes}
 use Rattle.std.specs.List.{before_first}
 use Rattle.source_port.proofs.AddressPaths.{elsewhere, found, refused}
-use Rattle.source_port.proofs.files.path_of.Goals as goal
+use Rattle.source_port.proofs.paths.path_of.Goals as goal
 
 pub returns-in_err-rest : goal.returns-in_err-rest
 returns-in_err-rest c = rw c.from_residual.ensures (elsewhere c.args.address.now c.in_err-rest.ensures.cases)
