@@ -1,5 +1,6 @@
 pub mod Words
 pub mod Lanes
+pub mod Digits
 pub mod Steps
 pub mod Rules
 pub mod Units
@@ -16,3 +17,16 @@ pub mod Complete
 pub mod Last
 pub mod Formed
 pub mod Shorts
+pub mod Texts
+pub mod Told
+pub mod Extents
+pub mod Added
+pub mod Leaves
+pub mod Behinds
+pub mod Parted
+pub mod Yields
+pub mod NamedValues
+pub mod Spelled
+pub mod Built
+pub mod NumberLaw
+pub mod DecimalLaw

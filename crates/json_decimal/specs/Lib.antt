@@ -11,3 +11,9 @@ pub mod Reading
 pub mod Seen
 pub mod Code
 pub mod Falls
+pub mod Entries
+pub mod ReadsInto
+pub mod Parts
+pub mod Handles
+pub mod Named
+pub mod Decimals

@@ -30,6 +30,12 @@ behind_item close [] = neither
 behind_item close (b ∷ bs) =
     if b == comma then separator (skip bs) else if b == close then closing (skip bs) else neither
 
+-- what stands behind an item, where one of the two does
+abbrev pub either_behind : Behind → Option Behind
+either_behind (separator bs) = Some (separator bs)
+either_behind (closing bs) = Some (closing bs)
+either_behind neither = None
+
 -- behind an item come more, or the bracket that closes
 abbrev pub follow : {A : Type 0} → Reader (List A) → A → Behind → Option (List A × List ℕ)
 follow more v (separator bs) = with_first v (more bs)
@@ -53,6 +59,10 @@ none_or None some = some
 -- no item, or one or more, and the bracket that closes
 abbrev pub enclosed : {A : Type 0} → ℕ → Reader A → Reader (List A)
 enclosed close p bs = none_or (after_byte close bs) (items close p bs)
+
+-- a string with its quotation marks
+abbrev pub quoted_at : Reader (List ℕ)
+quoted_at bs = after_byte quotation_mark bs >>= λ bs. string_at bs
 
 -- a member's name, up to its value
 abbrev pub name_at : Reader (List ℕ)

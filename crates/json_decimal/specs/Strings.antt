@@ -1,6 +1,6 @@
 -- Reading a string from behind its opening quotation mark (RFC 8259, section 7).
 use Rattle.std.specs.Prelude.{◌≡◌, ◌<◌, ℕ, zero, suc, ◌+◌, ◌-◌, ◌*◌, List, [], ◌∷◌, ◌++◌, ◌==◌, ◌||◌, ◌&&◌, nat_le, nat_lt, length, take, drop, Bool, not, if◌then◌else◌, Option, Some, None, codes, encode_utf8, IsUtf8}
-use Rattle.std.specs.Str.{is_utf8}
+use Rattle.std.specs.Str.{is_utf8, bytes_eq}
 use Rattle.json_decimal.specs.Ascii.{space, quotation_mark, reverse_solidus, lower_u}
 use Rattle.json_decimal.specs.Characters.{hex_digit, short_escape}
 use Rattle.json_decimal.specs.Scan.{◌>>=◌, Reader, after}
@@ -47,7 +47,7 @@ is_plain b = nat_le space b && not (b == quotation_mark) && not (b == reverse_so
 
 -- a byte that does not stand for itself, or is not in ASCII
 abbrev pub is_stop : ℕ → Bool
-is_stop b = nat_lt b space || b == quotation_mark || b == reverse_solidus || nat_le 0x80 b
+is_stop b = nat_lt b space || nat_le 0x80 b || b == quotation_mark || b == reverse_solidus
 
 -- how many bytes stand for themselves, up to the first that does not
 abbrev pub plain_len : List ℕ → ℕ
@@ -94,3 +94,15 @@ pub record IsShort (bs : List ℕ) (len : ℕ) : Type 0 where
   pub within : len < length bs
   pub text : IsUtf8 (take len bs)
   pub read : string_at bs ≡ Some (take len bs, drop (len + 1) bs)
+
+-- the bytes behind a string
+abbrev pub behind_string : List ℕ → Option (List ℕ)
+behind_string bs = string_at bs >>= λ x. Some x.1
+
+-- the string here stands for itself, and `rest` is what is behind its closing quotation mark
+abbrev pub IsPlain : List ℕ → List ℕ → Type 0
+IsPlain bs rest = string_at bs ≡ Some (take (length bs - (length rest + 1)) bs, rest)
+
+-- whether the string here, where there is one, has this text
+abbrev pub TellsText : List ℕ → List ℕ → Bool → Type 0
+TellsText bs text is = (x : List ℕ × List ℕ) → string_at bs ≡ Some x → is ≡ bytes_eq x.0 text

@@ -2,8 +2,19 @@
 #![tactic(auto)]
 
 mod blocks;
+mod building;
+mod entries;
+mod entry;
 mod error;
+mod form;
 mod json;
+mod json_items;
+mod json_members;
+mod json_ref;
+mod json_string;
+mod json_text;
+mod laws;
+mod limits;
 mod list;
 mod numbers;
 mod object;
@@ -12,7 +23,15 @@ mod scan;
 mod strings;
 
 pub use error::JsonError;
+pub use form::JsonForm;
 pub use json::{Json, JsonPair};
+pub use json_items::JsonItems;
+pub use json_members::JsonMembers;
+pub use json_ref::JsonRef;
+pub use json_string::{EscapedString, JsonString};
+pub use json_text::JsonText;
+pub use laws::numbers_are_decimals;
+pub use limits::{MAX_LENGTH, MAX_NESTING};
 pub use list::JsonList;
 pub use object::JsonObject;
 pub use parser::{one_value, parse, value_is_spelled};

@@ -1,13 +1,37 @@
-ghost use Rattle.std.specs.Prelude.{◌≡◌, option_map};
-ghost use Rattle.json_decimal.specs.Scan.{Gives};
+//! The parts of a number.
+ghost use Rattle.std.specs.Prelude.{◌≡◌, option_map, IfSome};
 ghost use Rattle.json_decimal.specs.Numbers.{after_digits, after_some_digits, after_minus, after_int};
-ghost use Rattle.json_decimal.specs.Numbers.{after_frac, after_sign, after_exp, after_number, number_at};
+ghost use Rattle.json_decimal.specs.Numbers.{after_frac, after_sign, after_exp, after_number};
+ghost use Rattle.json_decimal.specs.Numbers.{AreFewDigits};
+ghost use Rattle.json_decimal.specs.Scan.{Tells};
 
+use crate::blocks::{DIGITS, digits_len};
 use crate::error::JsonError;
-use source_port::Text;
-use std::alloc::Global;
 
+/// The bytes behind digits.
+#[inline(always)]
 fn after_digits(bytes: &[u8]) -> &[u8]
+    ensures { result.now ≡ after_digits bytes.now }
+{
+    match few_digits(bytes) {
+        Some(count) => &bytes[count..],
+        None => after_any_digits(bytes),
+    }
+}
+
+/// How many digits stand here, where they end within a block.
+#[inline(always)]
+fn few_digits(bytes: &[u8]) -> Option<usize>
+    ensures { IfSome result (AreFewDigits bytes.now) }
+{
+    let block = bytes.first_chunk::<DIGITS>()?;
+    let count = digits_len(block);
+    if count < DIGITS { Some(count) } else { None }
+}
+
+/// The bytes behind any number of digits.
+#[inline(never)]
+fn after_any_digits(bytes: &[u8]) -> &[u8]
     ensures { result.now ≡ after_digits bytes.now }
 {
     let mut rest = bytes;
@@ -17,6 +41,7 @@ fn after_digits(bytes: &[u8]) -> &[u8]
     rest
 }
 
+#[inline(always)]
 fn after_some_digits(bytes: &[u8]) -> Option<&[u8]>
     ensures { option_map (λ r. r.now) result ≡ after_some_digits bytes.now }
 {
@@ -26,6 +51,7 @@ fn after_some_digits(bytes: &[u8]) -> Option<&[u8]>
     }
 }
 
+#[inline(always)]
 fn after_minus(bytes: &[u8]) -> &[u8]
     ensures { result.now ≡ after_minus bytes.now }
 {
@@ -35,6 +61,7 @@ fn after_minus(bytes: &[u8]) -> &[u8]
     }
 }
 
+#[inline(always)]
 fn after_int(bytes: &[u8]) -> Option<&[u8]>
     ensures { option_map (λ r. r.now) result ≡ after_int bytes.now }
 {
@@ -44,6 +71,7 @@ fn after_int(bytes: &[u8]) -> Option<&[u8]>
     }
 }
 
+#[inline(always)]
 fn after_frac(bytes: &[u8]) -> Option<&[u8]>
     ensures { option_map (λ r. r.now) result ≡ after_frac bytes.now }
 {
@@ -53,6 +81,7 @@ fn after_frac(bytes: &[u8]) -> Option<&[u8]>
     }
 }
 
+#[inline(always)]
 fn after_sign(bytes: &[u8]) -> &[u8]
     ensures { result.now ≡ after_sign bytes.now }
 {
@@ -62,6 +91,7 @@ fn after_sign(bytes: &[u8]) -> &[u8]
     }
 }
 
+#[inline(always)]
 fn after_exp(bytes: &[u8]) -> Option<&[u8]>
     ensures { option_map (λ r. r.now) result ≡ after_exp bytes.now }
 {
@@ -71,6 +101,8 @@ fn after_exp(bytes: &[u8]) -> Option<&[u8]>
     }
 }
 
+/// The bytes behind a number (RFC 8259, section 6).
+#[inline(always)]
 fn after_number(bytes: &[u8]) -> Option<&[u8]>
     ensures { option_map (λ r. r.now) result ≡ after_number bytes.now }
 {
@@ -79,13 +111,13 @@ fn after_number(bytes: &[u8]) -> Option<&[u8]>
     after_exp(rest)
 }
 
-/// The spelling of a number (RFC 8259, section 6).
-pub fn number(alloc: Global, bytes: &[u8]) -> Result<(Text, &[u8]), JsonError>
-    ensures { Gives (λ x. (x.0, x.1.now)) result (number_at bytes.now) }
+/// The bytes behind a number, which has to stand here.
+#[inline(always)]
+pub fn past_number(bytes: &[u8]) -> Result<&[u8], JsonError>
+    ensures { Tells (λ r. r.now) result (after_number bytes.now) }
 {
-    let Some(rest) = after_number(bytes) else {
-        return Err(JsonError::NotJson);
-    };
-    let len = bytes.len() - rest.len();
-    Ok((Text::from_front(alloc, bytes, len)?, rest))
+    match after_number(bytes) {
+        Some(rest) => Ok(rest),
+        None => Err(JsonError::NotJson),
+    }
 }

@@ -1,16 +1,18 @@
-ghost use Rattle.std.specs.Prelude.{◌≡◌, ◌<◌, ◌≤◌, option_map, IfSome, length};
+//! Steps over the parts of a string.
+ghost use Rattle.std.specs.Prelude.{◌≡◌, ◌<◌, ◌≤◌, true, option_map, IfOk, IfSome, length, encode_utf8, []};
 ghost use Rattle.std.specs.Char.{IsScalar};
 ghost use Rattle.json_decimal.specs.Characters.{hex_digit, short_escape};
-ghost use Rattle.json_decimal.specs.Scan.{Gives};
+ghost use Rattle.json_decimal.specs.Scan.{Tells, after};
 ghost use Rattle.json_decimal.specs.Strings.{unit_at, low_at, units_at, escape_at};
-ghost use Rattle.json_decimal.specs.Strings.{plain_len, run_end, string_at, IsShort};
+ghost use Rattle.json_decimal.specs.Strings.{plain_len, run_end, string_at, behind_string, IsShort, IsPlain};
+ghost use Rattle.json_decimal.specs.Strings.{TellsText};
 ghost use Rattle.json_decimal.specs.Seen.{run_end_view};
 
 use crate::blocks::{BLOCK, plain_ascii_len};
 use crate::error::JsonError;
 use crate::scan::after_word;
-use source_port::Text;
-use std::alloc::Global;
+use std::alloc::{AllocError, Global};
+use tile_types::Text;
 
 fn hex_value(byte: u8) -> Option<u32>
     ensures value { result ≡ hex_digit byte }
@@ -153,42 +155,130 @@ fn short_len(bytes: &[u8]) -> Option<usize>
     }
 }
 
-/// The text of a string, from behind its opening quotation mark (RFC 8259, section 7).
-#[inline(always)]
-pub fn string(alloc: Global, bytes: &[u8]) -> Result<(Text, &[u8]), JsonError>
-    ensures { Gives (λ x. (x.0, x.1.now)) result (string_at bytes.now) }
-{
-    match short_len(bytes) {
-        Some(len) => Ok((Text::from_front(alloc, bytes, len)?, &bytes[len + 1..])),
-        None => any_string(alloc, bytes),
-    }
-}
-
-#[inline(never)]
-fn any_string(alloc: Global, bytes: &[u8]) -> Result<(Text, &[u8]), JsonError>
-    ensures { Gives (λ x. (x.0, x.1.now)) result (string_at bytes.now) }
+/// The text of a string, from behind its opening quotation mark (RFC 8259, section 7), or None where none stands
+/// here.
+pub fn text_at(alloc: Global, bytes: &[u8]) -> Result<Option<Text>, AllocError>
+    ensures { IfOk result (λ text. text ≡ option_map (λ x. x.0) (string_at bytes.now)) }
 {
     let mut text = String::new(alloc);
     let mut rest = bytes;
     loop {
         let (run, more) = rest.split_at(plain_len(rest));
         let Ok(run) = str::from_utf8(run) else {
-            return Err(JsonError::NotJson);
+            return Ok(None);
         };
         text.push_str(run)?;
         match end_of_run(more) {
-            RunEnd::Quote(after) => return Ok((Text::new(alloc, text.as_str())?, after)),
+            RunEnd::Quote(_) => return Ok(Some(Text::new(alloc, text.as_str())?)),
             RunEnd::Escape(after) => {
                 let Some((code, after)) = escape(after) else {
-                    return Err(JsonError::NotJson);
+                    return Ok(None);
                 };
                 let Some(character) = char::from_u32(code) else {
-                    return Err(JsonError::NotJson);
+                    return Ok(None);
                 };
                 text.push(character)?;
                 rest = after;
             }
-            RunEnd::Neither => return Err(JsonError::NotJson),
+            RunEnd::Neither => return Ok(None),
+        }
+    }
+}
+
+/// Whether a string stands for itself, with no escape, and the bytes behind it, from behind its opening quotation
+/// mark.
+#[inline(always)]
+pub fn string_end(bytes: &[u8]) -> Option<(bool, &[u8])>
+    ensures behind { option_map (λ x. x.1.now) result ≡ behind_string bytes.now }
+    ensures plain { IfSome result (λ x. x.0 ≡ true → IsPlain bytes.now x.1.now) }
+{
+    match short_len(bytes) {
+        Some(len) => Some((true, &bytes[len + 1..])),
+        None => any_string_end(bytes),
+    }
+}
+
+/// The same of any string.
+#[inline(never)]
+fn any_string_end(bytes: &[u8]) -> Option<(bool, &[u8])>
+    ensures behind { option_map (λ x. x.1.now) result ≡ behind_string bytes.now }
+    ensures plain { IfSome result (λ x. x.0 ≡ true → IsPlain bytes.now x.1.now) }
+{
+    let mut plain = true;
+    let mut rest = bytes;
+    loop {
+        let (run, more) = rest.split_at(plain_len(rest));
+        let Ok(_run) = str::from_utf8(run) else {
+            return None;
+        };
+        match end_of_run(more) {
+            RunEnd::Quote(after) => return Some((plain, after)),
+            RunEnd::Escape(after) => {
+                let Some((_code, after)) = escape(after) else {
+                    return None;
+                };
+                plain = false;
+                rest = after;
+            }
+            RunEnd::Neither => return None,
+        }
+    }
+}
+
+/// The same of a string that has to stand here.
+#[inline(always)]
+pub fn past_string(bytes: &[u8]) -> Result<(bool, &[u8]), JsonError>
+    ensures behind { Tells (λ x. x.1.now) result (behind_string bytes.now) }
+    ensures plain { IfOk result (λ x. x.0 ≡ true → IsPlain bytes.now x.1.now) }
+{
+    match string_end(bytes) {
+        Some(end) => Ok(end),
+        None => Err(JsonError::NotJson),
+    }
+}
+
+/// What is left of the bytes behind a character in UTF-8, where they begin with it.
+fn after_character(code: u32, bytes: &[u8]) -> Option<&[u8]>
+    requires { IsScalar code }
+    ensures { option_map (λ r. r.now) result ≡ after (encode_utf8 code) bytes.now }
+{
+    let character = char::from_u32(code)?;
+    let mut buffer = [0; 4];
+    after_word(character.encode_utf8(&mut buffer).as_bytes(), bytes)
+}
+
+/// Whether there are no bytes.
+fn has_none(bytes: &[u8]) -> bool
+    ensures none { result ≡ true → bytes.now ≡ [] }
+    ensures some { bytes.now ≡ [] → result ≡ true }
+{
+    matches!(bytes, [])
+}
+
+/// Whether a string has these bytes as its text, from behind its opening quotation mark. It takes no memory.
+pub fn has_text(bytes: &[u8], text: &[u8]) -> bool
+    ensures { TellsText bytes.now text.now result }
+{
+    let mut rest = bytes;
+    let mut left = text;
+    loop {
+        let (run, more) = rest.split_at(plain_len(rest));
+        let Some(behind) = after_word(run, left) else {
+            return false;
+        };
+        match end_of_run(more) {
+            RunEnd::Quote(_) => return has_none(behind),
+            RunEnd::Escape(after) => {
+                let Some((code, after)) = escape(after) else {
+                    return false;
+                };
+                let Some(behind) = after_character(code, behind) else {
+                    return false;
+                };
+                rest = after;
+                left = behind;
+            }
+            RunEnd::Neither => return false,
         }
     }
 }

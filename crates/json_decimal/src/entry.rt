@@ -1,0 +1,59 @@
+//! Entries: where values and names are spelled.
+ghost use Rattle.std.specs.Prelude.{◌≡◌, ◌≤◌, ◌<◌, ◌-◌, ◌^◌, length, drop, IsTrue};
+ghost use Rattle.json_decimal.specs.Entries.{form_by, form_from, inside, is_entry};
+
+use crate::form::{JsonForm, form_by, inside_as};
+
+/// Where a value or a name is spelled among the bytes of a JSON text.
+#[derive(Clone, Copy, Debug)]
+pub struct Entry {
+    /// The place of its first byte, which tells its form.
+    pub start: u32,
+    /// Of a list or an object, the number of entries for what is inside it, which stand right behind this one.
+    /// Of a number, `null`, `true`, `false` and a string without escapes, how many bytes spell it. Of a string
+    /// with escapes 0.
+    pub extent: u32,
+}
+
+impl Entry {
+    /// The entry of what `spelled` begins with, the last part of all bytes.
+    #[inline(always)]
+    pub fn new(bytes: &[u8], spelled: &[u8], extent: u32) -> Entry
+        requires within { length spelled.now ≤ length bytes.now }
+        requires few { length bytes.now < 2 ^ 32 }
+        ensures start { result.start ≡ length bytes.now - length spelled.now }
+        ensures extent { result.extent ≡ extent }
+    {
+        Entry {
+            start: (bytes.len() - spelled.len()) as u32,
+            extent,
+        }
+    }
+
+    /// The bytes from where it is spelled.
+    #[inline(always)]
+    pub fn spelled(self, bytes: &[u8]) -> &[u8]
+        requires { IsTrue (is_entry bytes.now self) }
+        ensures { result.now ≡ drop self.start bytes.now }
+    {
+        &bytes[self.start as usize..]
+    }
+
+    /// The form of what is spelled there.
+    #[inline(always)]
+    pub fn form(self, bytes: &[u8]) -> JsonForm
+        requires { IsTrue (is_entry bytes.now self) }
+        ensures { result ≡ form_from (drop self.start bytes.now) }
+    {
+        form_by(bytes[self.start as usize])
+    }
+
+    /// How many entries behind this one stand for what is inside it.
+    #[inline(always)]
+    pub fn inside(self, bytes: &[u8]) -> usize
+        requires { IsTrue (is_entry bytes.now self) }
+        ensures { result ≡ inside bytes.now self }
+    {
+        inside_as(self.form(bytes), self.extent)
+    }
+}

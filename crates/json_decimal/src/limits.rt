@@ -1,0 +1,7 @@
+//! What a JSON text may have at most (RFC 8259, section 9, leaves it to the reader).
+
+/// How deep lists and objects may nest.
+pub const MAX_NESTING: usize = 256;
+
+/// How many bytes a text may have.
+pub const MAX_LENGTH: usize = 0xFFFF_FFFF;
