@@ -1,0 +1,6 @@
+mod Braces
+mod CheckedTexts
+mod JsonEnds
+mod PlainBelow
+mod Spaces
+mod States

@@ -1,0 +1,4 @@
+pub mod Addresses
+pub mod Bases
+pub mod PlainPaths
+pub mod Templates
