@@ -3,12 +3,11 @@
 ghost use Rattle.std.specs.Prelude.{◌≡◌, ◌-◌, ◌==◌, ◌<◌, ◌^◌, ◌∷◌, []};
 ghost use Rattle.std.specs.Prelude.{Some, IsTrue, map, nat_le, slice_get, if◌then◌else◌, vec_len};
 ghost use Rattle.std.specs.Option.{option_map, unwrap_or};
-ghost use Rattle.cut_core.specs.Standing.{is_listed};
-ghost use Rattle.cut_core.specs.Tree.{no_trees, tile, trees_of};
+ghost use Rattle.expanded_tree.specs.Tree.{explicit_tile, from_list, no_trees};
 
 use crate::{Node, NodeFacts, TileTree};
-use source_port::{Key, Text};
 use std::alloc::{AllocError, Global};
+use tile_types::{Key, Text};
 
 /// A tile with one content.
 #[derive(Drop)]
@@ -42,17 +41,25 @@ impl Fan {
 }
 
 impl TileTree for Fan {
+    ghost use Rattle.std.specs.Prelude.{ℕ};
+
+    ghost Basis = { ℕ };
+
+    ghost basis = { λ t. vec_len t.children };
+
     ghost standing = { λ t.
-        let root = tile t.root.name t.root.facts (t.root.address ∷ [])
-        (trees_of (map (λ c. tile c.name c.facts (c.address ∷ []) no_trees) t.children.items)) in
+        let root = explicit_tile t.root.name t.root.facts (t.root.address ∷ [])
+        (from_list (map (λ c. explicit_tile c.name c.facts (c.address ∷ []) no_trees)
+        t.children.items)) in
         record {
           tree = Some root;
           node_tree = λ n. if n.number == 0 then root
-              else unwrap_or (option_map (λ c. tile c.name c.facts (c.address ∷ []) no_trees)
+              else unwrap_or (option_map (λ c. explicit_tile c.name c.facts
+              (c.address ∷ []) no_trees)
               (slice_get t.children.items (n.number - 1))) root;
           is_valid = λ n. nat_le n.number (vec_len t.children);
           at_hand = λ n. nat_le n.number (vec_len t.children);
-          is_opened = λ n. is_listed t.opened.items n;
+          opened = t.opened.items;
         } };
 
     fn top(&mut self, _alloc: Global) -> Result<Option<Node>, AllocError> {
