@@ -2,12 +2,12 @@
 use Rattle.std.proofs.Common.{◌≡◌, ℕ, suc, ◌+◌, ◌≤◌, Bool, true, false, List, [], ◌∷◌, Option, Some, None, refl, ◌∙◌, sym, arith, nat_le, if◌then◌else◌, codes}
 use Rattle.std.specs.Str.{bytes_eq}
 use Rattle.json_decimal.specs.JsonValue.{JsonValue, Values, Pairs, null, truth, number, words, list, object, no_values, value, no_pairs, pair, list_of, pairs_of, last_of}
-use Rattle.cut_core.specs.Tree.{Tree, tile, Trees, no_trees, more_trees}
-use Rattle.stream_cli.specs.Form.{◌>>=◌, Inherited, Written, Members, tile_tree, children_in, listed_trees, child_trees, child_name, tile_names, tile_values, is_among, times_named, has_only, written_tile}
+use Rattle.expanded_tree.specs.Tree.{Tree, explicit_tile, Trees, no_trees, more_trees, from_list}
+use Rattle.stream_cli.specs.Form.{◌>>=◌, Inherited, TileProperties, Members, tile_tree, children_in, listed_trees, child_trees, child_name, tile_names, tile_values, is_among, times_named, has_only, tile_properties}
 use Rattle.std.specs.List.{list_all}
 use Rattle.std.proofs.lemmas.List.Folds.{list_all_at}
 use Rattle.std.proofs.lemmas.Bool.{true_from_ne_false, leb-true, false≢true}
-use Rattle.stream_cli.specs.Nodes.{from_list}
+use Rattle.stream_cli.specs.Nodes.{}
 use Rattle.stream_cli.proofs.Named.{one_more, no_more, last_of-unnamed, later-none, both_right}
 use Rattle.stream_cli.specs.Waiting.{Parts, parts_of, parts_by, with_children, child_values, entry_trees, child_entries}
 
@@ -67,21 +67,21 @@ children_once ms e =
 
 -- the tree of a tile of these parts
 abbrev pub parts_tree : List ℕ → Parts → Option Tree
-parts_tree name parts = entry_trees (child_entries name parts.0.handed 0 parts.1) >>= λ kids. Some (tile name parts.0.facts parts.0.contents (from_list kids))
+parts_tree name parts = entry_trees (child_entries name parts.0.inherited 0 parts.1) >>= λ kids. Some (explicit_tile name parts.0.facts parts.0.contents (from_list kids))
 
-with_values : (name : List ℕ) (w : Written) (member : Option JsonValue)
-    → (member_trees name w.handed member >>= λ children. Some (tile name w.facts w.contents children))
+with_values : (name : List ℕ) (w : TileProperties) (member : Option JsonValue)
+    → (member_trees name w.inherited member >>= λ children. Some (explicit_tile name w.facts w.contents children))
     ≡ ((child_values member >>= λ values. Some (w, values)) >>= parts_tree name)
-with_values name w member = rw (member_trees-values name w.handed member) (go (child_values member))
+with_values name w member = rw (member_trees-values name w.inherited member) (go (child_values member))
   where
-    again : (o : Option (List Tree)) → (as_trees o >>= λ children. Some (tile name w.facts w.contents children)) ≡ (o >>= λ kids. Some (tile name w.facts w.contents (from_list kids)))
+    again : (o : Option (List Tree)) → (as_trees o >>= λ children. Some (explicit_tile name w.facts w.contents children)) ≡ (o >>= λ kids. Some (explicit_tile name w.facts w.contents (from_list kids)))
     again None = refl
     again (Some kids) = refl
 
-    go : (o : Option (List JsonValue)) → ((o >>= λ values. as_trees (entry_trees (child_entries name w.handed 0 values))) >>= λ children. Some (tile name w.facts w.contents children))
+    go : (o : Option (List JsonValue)) → ((o >>= λ values. as_trees (entry_trees (child_entries name w.inherited 0 values))) >>= λ children. Some (explicit_tile name w.facts w.contents children))
         ≡ ((o >>= λ values. Some (w, values)) >>= parts_tree name)
     go None = refl
-    go (Some values) = again (entry_trees (child_entries name w.handed 0 values))
+    go (Some values) = again (entry_trees (child_entries name w.inherited 0 values))
 
 pub tile_tree-parts : (name : List ℕ) (from : Inherited) (v : JsonValue) → tile_tree name from v ≡ (parts_of from v >>= parts_tree name)
 tile_tree-parts name from null = refl
@@ -91,12 +91,12 @@ tile_tree-parts name from (words s) = refl
 tile_tree-parts name from (list vs) = refl
 tile_tree-parts name from (object ps) = go (has_only tile_names (pairs_of ps)) refl
   where
-    inner : has_only tile_names (pairs_of ps) ≡ true → (o : Option Written) → (o >>= λ w. children_in name w.handed ps >>= λ children. Some (tile name w.facts w.contents children)) ≡ ((o >>= with_children (last_of (codes "children") (pairs_of ps))) >>= parts_tree name)
+    inner : has_only tile_names (pairs_of ps) ≡ true → (o : Option TileProperties) → (o >>= λ w. children_in name w.inherited ps >>= λ children. Some (explicit_tile name w.facts w.contents children)) ≡ ((o >>= with_children (last_of (codes "children") (pairs_of ps))) >>= parts_tree name)
     inner k None = refl
-    inner k (Some w) = rw (children_in-last name w.handed ps (children_once (pairs_of ps) k)) (with_values name w (last_of (codes "children") (pairs_of ps)))
+    inner k (Some w) = rw (children_in-last name w.inherited ps (children_once (pairs_of ps) k)) (with_values name w (last_of (codes "children") (pairs_of ps)))
 
     go : (b : Bool) → has_only tile_names (pairs_of ps) ≡ b
-        → ((if b then Some (tile_values (pairs_of ps)) else None) >>= λ own. written_tile from own >>= λ w. children_in name w.handed ps >>= λ children. Some (tile name w.facts w.contents children))
+        → ((if b then Some (tile_values (pairs_of ps)) else None) >>= λ own. tile_properties from own >>= λ w. children_in name w.inherited ps >>= λ children. Some (explicit_tile name w.facts w.contents children))
         ≡ (((if b then Some (tile_values (pairs_of ps)) else None) >>= parts_by from) >>= parts_tree name)
     go false k = refl
-    go true k = inner k (written_tile from (tile_values (pairs_of ps)))
+    go true k = inner k (tile_properties from (tile_values (pairs_of ps)))

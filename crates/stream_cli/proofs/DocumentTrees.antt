@@ -3,25 +3,26 @@ use Rattle.std.proofs.Common.{◌≡◌, ℕ, ◌≤◌, ◌<◌, List, length, 
 use Rattle.std.proofs.lemmas.Bool.{leb-true}
 use Rattle.json_decimal.specs.JsonValue.{JsonValue}
 use Rattle.json_decimal.specs.Reading.{value_in}
-use Rattle.cut_core.specs.Tree.{Tree, tree_size}
+use Rattle.expanded_tree.specs.Tree.{Tree, tree_size}
 use Rattle.stream_cli.specs.declared.document.DocumentError.TheVariants as documents
 use Rattle.stream_cli.specs.declared.node.TileNode.{TileNode}
 use Rattle.stream_cli.specs.Documents.{document, Reads}
-use Rattle.stream_cli.specs.Form.{◌>>=◌, root_value, root_tree, tile_tree, at_root, within_tiles, tile_limit}
+use Rattle.stream_cli.specs.Form.{◌>>=◌, root_value, root_tree, tile_tree, at_root, within_tiles}
+use Rattle.stream_cli.specs.declared.tiles.TheConstants.{TILE_LIMIT}
 use Rattle.stream_cli.specs.Nodes.{root_of}
 use Rattle.stream_cli.proofs.NodeTrees.{a_root}
 
-few_by_test : (t u : Tree) → within_tiles t ≡ Some u → tree_size u ≤ tile_limit
-few_by_test t u e = go (nat_le (tree_size t) tile_limit) refl e
+few_by_test : (t u : Tree) → within_tiles t ≡ Some u → tree_size u ≤ TILE_LIMIT
+few_by_test t u e = go (nat_le (tree_size t) TILE_LIMIT) refl e
   where
-    go : (b : Bool) → nat_le (tree_size t) tile_limit ≡ b → (if b then Some t else None) ≡ Some u → tree_size u ≤ tile_limit
+    go : (b : Bool) → nat_le (tree_size t) TILE_LIMIT ≡ b → (if b then Some t else None) ≡ Some u → tree_size u ≤ TILE_LIMIT
     go true k f =
         let same : t ≡ u = cc in
         let sizes = ap tree_size same in
-        omega (arith, leb-true (tree_size t) tile_limit k, sizes)
+        omega (arith, leb-true (tree_size t) TILE_LIMIT k, sizes)
     go false k f = cc
 
-few_tiles : (o : Option Tree) (u : Tree) → (o >>= within_tiles) ≡ Some u → tree_size u ≤ tile_limit
+few_tiles : (o : Option Tree) (u : Tree) → (o >>= within_tiles) ≡ Some u → tree_size u ≤ TILE_LIMIT
 few_tiles None u e = cc
 few_tiles (Some t) u e = few_by_test t u e
 

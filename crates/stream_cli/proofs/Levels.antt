@@ -3,12 +3,13 @@ use Rattle.std.proofs.Common.{◌≡◌, ℕ, zero, suc, ◌+◌, ◌<◌, ◌�
 use Rattle.std.specs.List.{slice_get}
 use Rattle.std.proofs.lemmas.List.{length-drop, drop-append-le, take-append-le}
 use Rattle.json_decimal.specs.JsonValue.{later}
-use Rattle.cut_core.specs.Tree.{Tree, tile, tree_size, trees_size, pending}
+use Rattle.expanded_tree.specs.Tree.{Tree, tile, tree_size, trees_size, pending, from_list}
 use Rattle.stream_cli.specs.declared.node.TileNode.{TileNode}
-use Rattle.stream_cli.specs.Form.{◌>>=◌, tile_limit}
+use Rattle.stream_cli.specs.Form.{◌>>=◌}
+use Rattle.stream_cli.specs.declared.tiles.TheConstants.{TILE_LIMIT}
 use Rattle.std.proofs.Math.Seq.{drop-append_seam}
 use Rattle.stream_cli.proofs.Children.{parts_tree, tile_tree-parts}
-use Rattle.stream_cli.specs.Nodes.{from_list, tile_facts, contents_by, tree_with, tree_of, trees_before, HasRoom}
+use Rattle.stream_cli.specs.Nodes.{tile_facts, contents_by, tree_with, tree_of, trees_before, HasRoom}
 use Rattle.stream_cli.specs.Waiting.{Entry, Parts, parts_of, entry_tree, entry_trees, child_entries}
 
 -- ---- lists of trees
@@ -27,7 +28,7 @@ trees_size-from_list [] = refl
 trees_size-from_list (t ∷ ts) = ap (λ n. tree_size t + n) (trees_size-from_list ts)
 
 size_some : (t : Tree) → 1 ≤ tree_size t
-size_some (tile name facts contents children) = omega arith
+size_some (tile parts children) = omega arith
 size_some (pending name facts key) = omega arith
 
 pub length_le-sizes : (ts : List Tree) → length ts ≤ sizes ts
@@ -100,19 +101,12 @@ trees_before-more (n ∷ ns) later more room =
 
 -- ---- reading level by level
 
--- what was read so far: the nodes and the trees of what waits behind them are the root's tree, node by node
-pub record Stands (root : Option Tree) (nodes : List TileNode) (entries : List Entry) : Type 0 where
-  pub room : HasRoom (length entries) nodes
-  pub whole : root ≡ (entry_trees (drop (length nodes) entries) >>= λ ts. slice_get (trees_before nodes ts) 0)
-  pub counts : (ts : List Tree) (t : Tree) → entry_trees (drop (length nodes) entries) ≡ Some ts → root ≡ Some t → tree_size t ≡ length nodes + sizes ts
-  pub behind : length nodes ≤ length entries
-  pub within : length entries ≤ tile_limit
-  pub some : 0 < length entries
-
-pub drop_at : {A : Type 0} (xs : List A) (k : ℕ) (x : A) → slice_get xs k ≡ Some x → drop k xs ≡ x ∷ drop (suc k) xs
-drop_at [] k x e = cc
-drop_at (y ∷ ys) zero x e = let same : y ≡ x = cc in ap (λ z. z ∷ ys) same
-drop_at (y ∷ ys) (suc k) x e = drop_at ys k x e
+-- what was read so far: the nodes, with the trees of what waits behind them, are the root's tree, node by node
+pub record Stands (root : Option Tree) (nodes : List TileNode) (behind : List Entry) : Type 0 where
+  pub room : HasRoom (length nodes + length behind) nodes
+  pub whole : root ≡ (entry_trees behind >>= λ ts. slice_get (trees_before nodes ts) 0)
+  pub counts : (ts : List Tree) (t : Tree) → entry_trees behind ≡ Some ts → root ≡ Some t → tree_size t ≡ length nodes + sizes ts
+  pub within : length nodes + length behind ≤ TILE_LIMIT
 
 pub begins : (root : Entry) → Stands (entry_tree root) [] (root ∷ [])
 unfolding trees_before
@@ -120,9 +114,7 @@ begins root = record {
   room = λ i node e. cc;
   whole = whole (entry_tree root);
   counts = λ ts t e f. one (entry_tree root) ts t e f;
-  behind = omega arith;
   within = lit≤ tt;
-  some = omega arith;
 }
   where
     whole : (o : Option Tree) → o ≡ ((o >>= λ t. Some (t ∷ [])) >>= λ ts. slice_get (trees_before [] ts) 0)
@@ -139,7 +131,7 @@ begins root = record {
 -- the tree of what was read at a place, by the node of it
 pub entry_tree-node : (entry : Entry) (parts : Parts) (node : TileNode) → parts_of entry.from entry.tile ≡ Some parts → node.name ≡ entry.name
     → tile_facts node.volume node.error node.refine ≡ parts.0.facts → contents_by node.content ≡ parts.0.contents
-    → entry_tree entry ≡ (entry_trees (child_entries entry.name parts.0.handed 0 parts.1) >>= λ kids. Some (tree_with node kids))
+    → entry_tree entry ≡ (entry_trees (child_entries entry.name parts.0.inherited 0 parts.1) >>= λ kids. Some (tree_with node kids))
 entry_tree-node entry parts node read name facts contents =
     tile_tree-parts entry.name entry.from entry.tile ∙ ap (λ o. o >>= parts_tree entry.name) read
     ∙ rw (← name, ← facts, ← contents) refl

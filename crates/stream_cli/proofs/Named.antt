@@ -1,14 +1,19 @@
 -- The values of members by their names: what one member after another adds.
-use Rattle.std.proofs.Common.{◌≡◌, ℕ, suc, ◌+◌, List, [], ◌∷◌, ◌++◌, map, Option, Some, None, Bool, true, false, not, ◌&&◌, ◌||◌, cond, if◌then◌else◌, refl, ap, sym, ◌∙◌, arith, bytes_eq, nat_le, append_assoc, append-nil, Bor}
+use Rattle.std.proofs.Common.{◌≡◌, ◌<◌, ℕ, zero, suc, length, slice_index_or, codes, ◌+◌, List, [], ◌∷◌, ◌++◌, map, Option, Some, None, Bool, true, false, not, ◌&&◌, ◌||◌, cond, if◌then◌else◌, refl, ap, sym, ◌∙◌, arith, bytes_eq, nat_le, append_assoc, append-nil, Bor}
 use Rattle.std.specs.List.{list_all}
+use Rattle.std.proofs.lemmas.List.{get_or_default, length-map}
 use Rattle.std.proofs.lemmas.List.Sums.{sum_by-cons, sum_by-append}
 use Rattle.std.proofs.lemmas.List.Folds.{list_all-append}
 use Rattle.std.proofs.lemmas.Bool.{not-true, le-leb, leb-true, false_from_ne_true}
 use Rattle.std.proofs.lemmas.Slice.Eq.{bytes_eq-Decides}
+use Rattle.json_decimal.specs.Handles.{json_of}
 use Rattle.json_decimal.specs.JsonValue.{JsonValue, last_of, later}
 use Rattle.json_decimal.proofs.Last.{last_of-push}
-use Rattle.stream_cli.specs.Form.{◌>>=◌, Members, is_among, times_named, has_only, values_named}
-use Rattle.stream_cli.specs.Members.{plain, are_distinct, with_member, at_first}
+use Rattle.json_decimal.specs.Parts.{members_of, number_of, split_first}
+use Rattle.json_decimal.proofs.Parted.{split_some}
+use Rattle.stream_cli.specs.Form.{◌>>=◌, Members, is_among, times_named, has_only, values_named, tile_names, tile_members, asset_of, root_value}
+use Rattle.json_decimal.specs.declared.json_ref.JsonRef.{JsonRef}
+use Rattle.stream_cli.specs.Members.{plain, seen, value_seen, values_seen, are_distinct, with_member, at_first}
 
 pub both_left : (a b : Bool) → (a && b) ≡ true → a ≡ true
 both_left true b e = refl
@@ -246,3 +251,108 @@ filled-start names values ms apart_all empty = rw (empty, no_last names) (filled
 
 pub filled-none : (names : List (List ℕ)) (values : List (Option JsonValue)) (m : List ℕ × JsonValue) (ms : Members) → with_member names values m ≡ None → filled names values (m ∷ ms) ≡ None
 filled-none names values m ms e = rw e refl
+
+pub filled-some : (names : List (List ℕ)) (values more : List (Option JsonValue)) (m : List ℕ × JsonValue) (ms : Members) → Some more ≡ with_member names values m → filled names values (m ∷ ms) ≡ filled names more ms
+filled-some names values more m ms e = rw (sym e) refl
+
+-- ---- the one member of an object
+
+pub none_left : {A : Type 0} (xs : List A) → None ≡ split_first xs → xs ≡ []
+none_left [] e = refl
+none_left (x ∷ xs) e = cc
+
+-- ---- values at their places
+
+pub seen_at : (values : List (Option JsonRef)) (i : ℕ) → value_seen (slice_index_or values i None) ≡ slice_index_or (seen values) i None
+seen_at [] i = refl
+seen_at (v ∷ values) zero = refl
+seen_at (v ∷ values) (suc i) = seen_at values i
+
+module _ (names : List (List ℕ)) (ms : Members) (values : List (Option JsonRef)) (read : Some (seen values) ≡ values_named names ms) where
+  pub only_these : has_only names ms ≡ true
+  only_these = go (has_only names ms) refl read
+    where
+      go : (b : Bool) → has_only names ms ≡ b → Some (seen values) ≡ (if b then Some (lasts names ms) else None) → has_only names ms ≡ true
+      go true e h = e
+      go false e h = cc
+
+  pub all_seen : seen values ≡ lasts names ms
+  all_seen = go (has_only names ms) read
+    where
+      go : (b : Bool) → Some (seen values) ≡ (if b then Some (lasts names ms) else None) → seen values ≡ lasts names ms
+      go true h = cc
+      go false h = cc
+
+  pub last_at : (i : ℕ) → value_seen (slice_index_or values i None) ≡ slice_index_or (lasts names ms) i None
+  last_at i = seen_at values i ∙ ap (λ vs. slice_index_or vs i None) all_seen
+
+  -- whatever stands for a place that isn't there
+  pub last_by : (i : ℕ) (d : Option JsonRef) → i < length names
+      → value_seen (slice_index_or values i d) ≡ slice_index_or (lasts names ms) i None
+  last_by i d h =
+      let sizes : length values ≡ length names =
+      sym (length-map values value_seen) ∙ ap length all_seen ∙ length-map names (λ name. last_of name ms) in
+      ap value_seen (get_or_default values i d None (omega (arith, h, sizes))) ∙ last_at i
+
+pub tile_members_at : (ms : Members) (values : List (Option JsonRef)) (a b c d e f : Option JsonRef)
+    → Some (seen values) ≡ values_named tile_names ms
+    → Some (values_seen (record {
+      bounding_volume = slice_index_or values 0 a;
+      geometric_error = slice_index_or values 1 b;
+      content = slice_index_or values 2 c;
+      children = slice_index_or values 3 d;
+      transform = slice_index_or values 4 e;
+      refine = slice_index_or values 5 f;
+    })) ≡ tile_members ms
+tile_members_at ms values a b c d e f read =
+    let at : (i : ℕ) (o : Option JsonRef) → i < 6
+    → value_seen (slice_index_or values i o) ≡ slice_index_or (lasts tile_names ms) i None =
+    last_by tile_names ms values read in
+    rw (only_these tile_names ms values read, at 0 a (omega arith), at 1 b (omega arith), at 2 c (omega arith), at 3 d (omega arith), at 4 e (omega arith), at 5 f (omega arith)) refl
+
+abbrev pub top_names : List (List ℕ)
+top_names = codes "asset" ∷ codes "geometricError" ∷ codes "root" ∷ []
+
+pub no_asset : (v : JsonValue) (ms : Members) (values : List (Option JsonRef)) → Some ms ≡ members_of v → Some (seen values) ≡ values_named top_names ms
+    → (d : Option JsonRef) → slice_index_or values 0 d ≡ None → None ≡ root_value v
+no_asset v ms values is read d none =
+    let first : 0 < 3 = omega arith in
+    let last : last_of (codes "asset") ms ≡ None = sym (last_by top_names ms values read 0 d first) ∙ ap value_seen none in
+    rw (← is, only_these top_names ms values read, last) refl
+
+-- the members of the top object, and what comes of the first two
+abbrev pub behind_error : Members → Option JsonValue → Option JsonValue
+behind_error ms error = error >>= λ v. number_of v >>= λ spelling. last_of (codes "root") ms
+
+abbrev pub behind_version : Members → Option (List ℕ) → Option JsonValue
+behind_version ms version = version >>= λ v. behind_error ms (last_of (codes "geometricError") ms)
+
+pub no_top : (v : JsonValue) (ms : Members) → Some ms ≡ members_of v → None ≡ values_named top_names ms
+    → None ≡ root_value v
+no_top v ms is none = go (has_only top_names ms) refl none
+  where
+    go : (b : Bool) → has_only top_names ms ≡ b → None ≡ (if b then Some (lasts top_names ms) else None)
+        → None ≡ root_value v
+    go true e h = cc
+    go false e h = rw (← is, e) refl
+
+module _ (v : JsonValue) (ms : Members) (values : List (Option JsonRef)) (is : Some ms ≡ members_of v)
+    (read : Some (seen values) ≡ values_named top_names ms) (d : Option JsonRef) (asset : JsonRef)
+    (here : slice_index_or values 0 d ≡ Some asset) where
+  first_is : last_of (codes "asset") ms ≡ Some (json_of asset)
+  first_is =
+      let first : 0 < 3 = omega arith in
+      sym (last_by top_names ms values read 0 d first) ∙ ap value_seen here
+
+  pub no_version : None ≡ asset_of (json_of asset) → None ≡ root_value v
+  no_version none =
+      rw (← is, only_these top_names ms values read, first_is) (ap (behind_version ms) none)
+
+  pub no_error : (version : List ℕ) → Some version ≡ asset_of (json_of asset) → (e : Option JsonRef)
+      → slice_index_or values 1 e ≡ None → None ≡ root_value v
+  no_error version some e none =
+      let second : 1 < 3 = omega arith in
+      let last : last_of (codes "geometricError") ms ≡ None =
+      sym (last_by top_names ms values read 1 e second) ∙ ap value_seen none in
+      rw (← is, only_these top_names ms values read, first_is)
+      (sym (ap (behind_error ms) last) ∙ ap (behind_version ms) some)

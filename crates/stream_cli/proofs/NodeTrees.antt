@@ -4,20 +4,17 @@ use borrow.Author.Tests.{ltb-true}
 use Rattle.std.proofs.lemmas.List.{length-take, length-drop}
 use Rattle.std.specs.List.{slice_get}
 use Rattle.std.proofs.lemmas.Option.{slice_get-get_or, slice_get_past}
-use Rattle.cut_core.specs.declared.node.Node.{Node}
-use Rattle.cut_core.specs.Tree.{Tree, list_of, name_of, facts_of, contents_of, children_of, key_of}
+use Rattle.expanded_tree.specs.declared.node.Node.{Node}
+use Rattle.expanded_tree.specs.Tree.{Tree, list_of, name_of, facts_of, addresses_of, children_of, key_of, from_list}
+use Rattle.expanded_tree.proofs.Trees.{list_of-from_list}
 use Rattle.stream_cli.specs.declared.node.TileNode.{TileNode}
-use Rattle.stream_cli.specs.Nodes.{from_list, tile_facts, contents_by, tree_with, tree_of, trees_before, trees_of, HasRoom, root_of}
+use Rattle.stream_cli.specs.Nodes.{tile_facts, contents_by, tree_with, tree_of, trees_before, trees_of, HasRoom, root_of}
 use Rattle.stream_cli.specs.Listed.{no_tree, tree_at, is_node}
 
 length-trees_of : (nodes : List TileNode) → length (trees_of nodes) ≡ length nodes
 unfolding trees_before
 length-trees_of [] = refl
 length-trees_of (n ∷ ns) = ap suc (length-trees_of ns)
-
-list_of-from_list : (ts : List Tree) → list_of (from_list ts) ≡ ts
-list_of-from_list [] = refl
-list_of-from_list (t ∷ ts) = ap (λ us. t ∷ us) (list_of-from_list ts)
 
 tree_is : (nodes : List TileNode) (i : ℕ) (node : TileNode) → slice_get nodes i ≡ Some node → slice_get (trees_of nodes) i ≡ Some (tree_of node (drop (suc i) (trees_of nodes)))
 unfolding trees_before
@@ -60,8 +57,8 @@ module _ (nodes : List TileNode) (n : Node) (node : TileNode) (e : slice_get nod
   pub key_at : key_of (tree_at nodes n) ≡ None
   key_at = ap key_of tree_is_at
 
-  pub contents_at : contents_of (tree_at nodes n) ≡ contents_by node.content
-  contents_at = ap contents_of tree_is_at
+  pub contents_at : addresses_of (tree_at nodes n) ≡ contents_by node.content
+  contents_at = ap addresses_of tree_is_at
 
   children_at : children_of (tree_at nodes n) ≡ children
   children_at = ap children_of tree_is_at ∙ list_of-from_list children
@@ -104,7 +101,7 @@ one_content : (content : Option (List ℕ)) (i : ℕ) → i < length (contents_b
 one_content None i h e = absurd (omega arith)
 one_content (Some address) i h e = cc
 
-pub has_content : (nodes : List TileNode) (n : Node) (node : TileNode) → slice_get nodes n.number ≡ Some node → (i : ℕ) → i < length (contents_of (tree_at nodes n)) → node.content ≡ None → ⊥
+pub has_content : (nodes : List TileNode) (n : Node) (node : TileNode) → slice_get nodes n.number ≡ Some node → (i : ℕ) → i < length (addresses_of (tree_at nodes n)) → node.content ≡ None → ⊥
 has_content nodes n node e i h none = one_content node.content i (omega (arith, h, ap length (contents_at nodes n node e))) none
 
 at_content : (content : Option (List ℕ)) (i : ℕ) (address : List ℕ) → content ≡ Some address → i < length (contents_by content) → slice_get (contents_by content) i ≡ Some address
@@ -113,14 +110,14 @@ at_content (Some a) zero address e h = e
 at_content (Some a) (suc i) address e h = absurd (omega arith)
 
 pub content_at : (nodes : List TileNode) (n : Node) (node : TileNode) → slice_get nodes n.number ≡ Some node → (i : ℕ) (address : List ℕ) → node.content ≡ Some address
-    → i < length (contents_of (tree_at nodes n)) → slice_get (contents_of (tree_at nodes n)) i ≡ Some address
+    → i < length (addresses_of (tree_at nodes n)) → slice_get (addresses_of (tree_at nodes n)) i ≡ Some address
 content_at nodes n node e i address is h =
     ap (λ cs. slice_get cs i) (contents_at nodes n node e) ∙ at_content node.content i address is (omega (arith, h, ap length (contents_at nodes n node e)))
 
-pub no_contents : (nodes : List TileNode) (n : Node) (node : TileNode) → slice_get nodes n.number ≡ Some node → node.content ≡ None → 0 ≡ length (contents_of (tree_at nodes n))
+pub no_contents : (nodes : List TileNode) (n : Node) (node : TileNode) → slice_get nodes n.number ≡ Some node → node.content ≡ None → 0 ≡ length (addresses_of (tree_at nodes n))
 no_contents nodes n node e none = sym (ap length (contents_at nodes n node e ∙ ap contents_by none))
 
-pub one_contents : (nodes : List TileNode) (n : Node) (node : TileNode) → slice_get nodes n.number ≡ Some node → (address : List ℕ) → node.content ≡ Some address → 1 ≡ length (contents_of (tree_at nodes n))
+pub one_contents : (nodes : List TileNode) (n : Node) (node : TileNode) → slice_get nodes n.number ≡ Some node → (address : List ℕ) → node.content ≡ Some address → 1 ≡ length (addresses_of (tree_at nodes n))
 one_contents nodes n node e address is = sym (ap length (contents_at nodes n node e ∙ ap contents_by is))
 
 none_past : (nodes : List TileNode) (i : ℕ) → slice_get nodes i ≡ None → length nodes ≤ i

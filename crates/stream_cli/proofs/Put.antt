@@ -2,10 +2,11 @@
 use Rattle.std.proofs.Common.{◌≡◌, ℕ, suc, ◌+◌, List, [], ◌∷◌, length, Option, Some, None, Bool, true, false, cond, if◌then◌else◌, option_map, is_some, refl, ap, ◌∙◌, arith, bytes_eq, position, Bor, slice_index_or, slice_set, nat_lt}
 use Rattle.std.specs.List.{position_or_len}
 use Rattle.std.proofs.lemmas.Bool.Decides.{nat_tests}
-use Rattle.json_decimal.specs.declared.json.Json.{Json}
+use Rattle.json_decimal.specs.declared.json_ref.JsonRef.{JsonRef}
 use Rattle.json_decimal.specs.JsonValue.{JsonValue}
 use Rattle.stream_cli.specs.Form.{◌>>=◌}
 use Rattle.stream_cli.specs.Members.{plain, seen, value_seen, with_member, at_first}
+use Rattle.stream_cli.proofs.Named.{flip_true, flip_false}
 
 -- the first place of a name
 abbrev pub place_of : List (Bor (List ℕ)) → List ℕ → Option ℕ
@@ -19,17 +20,23 @@ past n len = go (nat_lt n len) refl
     go true k = let more : nat_lt (1 + n) (suc len) ≡ true = grind (arith, nat_tests) in rw more (ap Some (omega arith))
     go false k = let more : nat_lt (1 + n) (suc len) ≡ false = grind (arith, nat_tests) in rw more refl
 
-pub is_place : (names : List (Bor (List ℕ))) (key : List ℕ) → position (λ (name : Bor (List ℕ)). bytes_eq name.now key) names ≡ place_of names key
+flip : (a b : List ℕ) (t : Bool) → bytes_eq a b ≡ t → bytes_eq b a ≡ t
+flip a b true e = flip_true a b e
+flip a b false e = flip_false a b e
+
+pub is_place : (names : List (Bor (List ℕ))) (key : List ℕ) → position (λ (name : Bor (List ℕ)). bytes_eq key name.now) names ≡ place_of names key
 is_place [] key = refl
-is_place (name ∷ names) key = go (is_place names key) (bytes_eq name.now key) refl
+is_place (name ∷ names) key = go (is_place names key) (bytes_eq key name.now) refl
   where
     first : nat_lt 0 (suc (length names)) ≡ true
     first = grind (arith, nat_tests)
 
-    go : position (λ (name : Bor (List ℕ)). bytes_eq name.now key) names ≡ place_of names key
-        → (b : Bool) → bytes_eq name.now key ≡ b → position (λ (name : Bor (List ℕ)). bytes_eq name.now key) (name ∷ names) ≡ (if b then Some 0 else option_map suc (place_of names key))
-    go below true k = rw (k, first) refl
-    go below false k = rw k (past (position_or_len (λ (name : Bor (List ℕ)). bytes_eq name.now key) names) (length names) ∙ ap (option_map suc) below)
+    go : position (λ (name : Bor (List ℕ)). bytes_eq key name.now) names ≡ place_of names key
+        → (b : Bool) → bytes_eq key name.now ≡ b → position (λ (name : Bor (List ℕ)). bytes_eq key name.now) (name ∷ names) ≡ place_of (name ∷ names) key
+    go below true k = rw (k, flip key name.now true k, first) refl
+    go below false k =
+        rw (k, flip key name.now false k)
+        (past (position_or_len (λ (name : Bor (List ℕ)). bytes_eq key name.now) names) (length names) ∙ ap (option_map suc) below)
 
 -- no value without a place
 pub unlisted : (names : List (Bor (List ℕ))) (values : List (Option JsonValue)) (m : List ℕ × JsonValue) → place_of names m.0 ≡ None → with_member (plain names) values m ≡ None
@@ -51,16 +58,16 @@ unlisted (name ∷ names) (v ∷ vs) m e = go (unlisted names vs m) (bytes_eq na
 abbrev pub put_taken : Bool → List (Option JsonValue) → ℕ → JsonValue → Option (List (Option JsonValue))
 put_taken taken values i v = if taken then None else Some (slice_set values i (Some v))
 
-abbrev pub put_at : List (Option (Bor Json)) → JsonValue → ℕ → Option (Bor Json) → Option (List (Option JsonValue))
+abbrev pub put_at : List (Option JsonRef) → JsonValue → ℕ → Option JsonRef → Option (List (Option JsonValue))
 put_at values v i d = put_taken (is_some (slice_index_or values i d)) (seen values) i v
 
-pub placed : (names : List (Bor (List ℕ))) (values : List (Option (Bor Json))) (key : List ℕ) (b : JsonValue) (i : ℕ) (d : Option (Bor Json)) → length values ≡ length names → place_of names key ≡ Some i
+pub placed : (names : List (Bor (List ℕ))) (values : List (Option JsonRef)) (key : List ℕ) (b : JsonValue) (i : ℕ) (d : Option JsonRef) → length values ≡ length names → place_of names key ≡ Some i
     → with_member (plain names) (seen values) (key, b) ≡ put_at values b i d
 placed [] values key b i d same e = cc
 placed (name ∷ names) [] key b i d same e = cc
 placed (name ∷ names) (v ∷ vs) key b i d same e = go (λ j k. placed names vs key b j d (omega (arith, same)) k) (bytes_eq name.now key) refl e
   where
-    at : (v : Option (Bor Json)) → at_first (value_seen v) (seen vs) (b) ≡ put_at (v ∷ vs) b 0 d
+    at : (v : Option JsonRef) → at_first (value_seen v) (seen vs) (b) ≡ put_at (v ∷ vs) b 0 d
     at None = refl
     at (Some w) = refl
 

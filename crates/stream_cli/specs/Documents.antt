@@ -3,10 +3,11 @@ use Rattle.std.specs.Prelude.{◌≡◌, ◌≤◌, ℕ, List, true, false, Opti
 use Rattle.json_decimal.specs.JsonValue.{JsonValue}
 use Rattle.json_decimal.specs.Reading.{value_in}
 use Rattle.error_test.specs.Views.{ViewParts}
-use Rattle.cut_core.specs.Cut.{Held, ideal}
-use Rattle.cut_core.specs.Tree.{Tree, tree_size}
+use Rattle.cut_core.specs.Cut.{Holdings, ideal}
+use Rattle.expanded_tree.specs.Tree.{Tree, tree_size}
 use Rattle.cut_core.specs.declared.line.CutLine.{CutLine}
-use Rattle.stream_cli.specs.Form.{document_tree, tile_limit}
+use Rattle.stream_cli.specs.Form.{document_tree}
+use Rattle.stream_cli.specs.declared.tiles.TheConstants.{TILE_LIMIT}
 use Rattle.stream_cli.specs.declared.document.DocumentError.{DocumentError}
 use Rattle.stream_cli.specs.declared.document.DocumentError.TheVariants.{NotJson, NotYet}
 
@@ -27,10 +28,10 @@ pub record Reads (bytes : List ℕ) (root : Option Tree) : Type 0 where
   pub tree : Tree
   pub is_root : root ≡ Some tree
   pub is_read : document bytes ≡ Ok tree
-  pub few : tree_size tree ≤ tile_limit
+  pub few : tree_size tree ≤ TILE_LIMIT
 
 -- every content is there
-abbrev pub nothing_absent : Held
+abbrev pub nothing_absent : Holdings
 nothing_absent = record { resident = λ address. true; absent = λ address. false }
 
 -- the document is read, and these are the lines of the ideal cut of its tree, in which no content is absent

@@ -4,6 +4,7 @@ use Rattle.std.specs.Prelude.{ℕ, ◌+◌, ℤ, pos, negsuc, unsigned_abs, min,
 use Rattle.std.specs.List.{list_all, list_any}
 use Rattle.std.specs.Str.{str_to_ascii_lowercase}
 use Rattle.json_decimal.specs.JsonValue.{JsonValue, Values, Pairs, null, truth, number, words, list, object, no_values, value, no_pairs, pair, list_of, pairs_of, last_of}
+use Rattle.json_decimal.specs.Parts.{members_of, items_of, number_of, text_of}
 use Rattle.fixed_geometry.specs.Decimal.{fixed}
 use Rattle.fixed_geometry.specs.Maps.{Map, identity, after}
 use Rattle.fixed_geometry.specs.Points.{coordinate_limit}
@@ -14,10 +15,11 @@ use Rattle.volumes.specs.declared.volume.Volume.{Volume}
 use Rattle.volumes.specs.declared.volume.Volume.TheVariants.{Oriented, Ball}
 use Rattle.volumes.specs.Moves.{moved, moved_error}
 use Rattle.volumes.specs.Limits.{error_limit}
-use Rattle.source_port.specs.declared.key.Refine.{Refine}
-use Rattle.source_port.specs.declared.key.Refine.TheVariants.{Add, Replace}
-use Rattle.cut_core.specs.Facts.{Facts}
-use Rattle.cut_core.specs.Tree.{Tree, tile, Trees, no_trees, more_trees, tree_size}
+use Rattle.tile_types.specs.declared.refine.Refine.{Refine}
+use Rattle.tile_types.specs.declared.refine.Refine.TheVariants.{Add, Replace}
+use Rattle.expanded_tree.specs.Facts.{Facts}
+use Rattle.expanded_tree.specs.Tree.{Tree, explicit_tile, Trees, no_trees, more_trees, tree_size}
+use Rattle.stream_cli.specs.declared.tiles.TheConstants.{TILE_LIMIT}
 
 infixl 10 ◌>>=◌
 abbrev pub ◌>>=◌ : {A B : Type 0} → Option A → (A → Option B) → Option B
@@ -28,38 +30,6 @@ None >>= f = None
 
 abbrev pub Members : Type 0
 Members = List (List ℕ × JsonValue)
-
-abbrev pub members_of : JsonValue → Option Members
-members_of null = None
-members_of (truth b) = None
-members_of (number spelling) = None
-members_of (words text) = None
-members_of (list items) = None
-members_of (object members) = Some (pairs_of members)
-
-abbrev pub items_of : JsonValue → Option (List JsonValue)
-items_of null = None
-items_of (truth b) = None
-items_of (number spelling) = None
-items_of (words text) = None
-items_of (list items) = Some (list_of items)
-items_of (object members) = None
-
-abbrev pub number_of : JsonValue → Option (List ℕ)
-number_of null = None
-number_of (truth b) = None
-number_of (number spelling) = Some spelling
-number_of (words text) = None
-number_of (list items) = None
-number_of (object members) = None
-
-abbrev pub text_of : JsonValue → Option (List ℕ)
-text_of null = None
-text_of (truth b) = None
-text_of (number spelling) = None
-text_of (words text) = Some text
-text_of (list items) = None
-text_of (object members) = None
 
 abbrev pub is_among : List (List ℕ) → List ℕ → Bool
 is_among names name = list_any (λ other. bytes_eq other name) names
@@ -109,13 +79,13 @@ not_negative (negsuc n) = None
 abbrev pub radius : JsonValue → Option ℤ
 radius v = coordinate v >>= not_negative
 
--- an error in whole micrometres, held at the limit of errors
-abbrev pub held_error : ℤ → Option ℕ
-held_error (pos n) = Some (min n error_limit)
-held_error (negsuc n) = None
+-- an error in whole micrometres, clamped to the limit of errors
+abbrev pub clamped_error : ℤ → Option ℕ
+clamped_error (pos n) = Some (min n error_limit)
+clamped_error (negsuc n) = None
 
 abbrev pub error_of : JsonValue → Option ℕ
-error_of v = number_of v >>= λ spelling. held_error (fixed spelling 6)
+error_of v = number_of v >>= λ spelling. clamped_error (fixed spelling 6)
 
 -- ---- volumes (OGC 22-025r4, "Bounding volumes")
 
@@ -217,9 +187,9 @@ or_default d read None = Some d
 or_default d read (Some v) = read v
 
 -- the contents of a tile: none, or the one
-abbrev pub contents_of : Option JsonValue → Option (List (List ℕ))
-contents_of None = Some []
-contents_of (Some v) = uri_of v >>= λ uri. Some (uri ∷ [])
+abbrev pub tile_contents : Option JsonValue → Option (List (List ℕ))
+tile_contents None = Some []
+tile_contents (Some v) = uri_of v >>= λ uri. Some (uri ∷ [])
 
 -- ---- tiles (OGC 22-025r4, "Tiles")
 
@@ -228,7 +198,7 @@ tile_names =
     codes "boundingVolume" ∷ codes "geometricError" ∷ codes "content" ∷ codes "children" ∷ codes "transform" ∷ codes "refine" ∷ []
 
 -- the values of a tile's members, none where there is no such member
-pub record TileValues : Type 0 where
+pub record TileMembers : Type 0 where
   pub bounding_volume : Option JsonValue
   pub geometric_error : Option JsonValue
   pub content : Option JsonValue
@@ -236,7 +206,7 @@ pub record TileValues : Type 0 where
   pub transform : Option JsonValue
   pub refine : Option JsonValue
 
-abbrev pub tile_values : Members → TileValues
+abbrev pub tile_values : Members → TileMembers
 tile_values members = record {
   bounding_volume = last_of (codes "boundingVolume") members;
   geometric_error = last_of (codes "geometricError") members;
@@ -247,7 +217,7 @@ tile_values members = record {
 }
 
 -- the values, if no other members are there and none comes twice
-abbrev pub tile_members : Members → Option TileValues
+abbrev pub tile_members : Members → Option TileMembers
 tile_members members = if has_only tile_names members then Some (tile_values members) else None
 
 -- what the children of a tile take over from it: its computed transform and its refinement
@@ -256,13 +226,13 @@ pub record Inherited : Type 0 where
   pub refine : Refine
 
 -- a tile without what its children and its name tell
-pub record Written : Type 0 where
+pub record TileProperties : Type 0 where
   pub facts : Facts
   pub contents : List (List ℕ)
-  pub handed : Inherited
+  pub inherited : Inherited
 
-abbrev pub written_by : Volume → ℕ → List (List ℕ) → Map → Refine → Written
-written_by volume error contents computed refine = record {
+abbrev pub properties_by : Volume → ℕ → List (List ℕ) → Map → Refine → TileProperties
+properties_by volume error contents computed refine = record {
   facts = record {
     volume = Some (moved volume computed);
     request = None;
@@ -271,18 +241,18 @@ written_by volume error contents computed refine = record {
     external = false;
   };
   contents = contents;
-  handed = record { transform = computed; refine = refine };
+  inherited = record { transform = computed; refine = refine };
 }
 
 -- what the values say, but for the children; what a tile doesn't have it takes from its parent
-abbrev pub written_tile : Inherited → TileValues → Option Written
-written_tile from own =
+abbrev pub tile_properties : Inherited → TileMembers → Option TileProperties
+tile_properties from own =
     own.bounding_volume >>= λ v. volume_of v >>= λ volume.
     own.geometric_error >>= λ e. error_of e >>= λ error.
-    contents_of own.content >>= λ contents.
+    tile_contents own.content >>= λ contents.
     or_default identity transform_of own.transform >>= λ transform.
     or_default from.refine refinement_of own.refine >>= λ refine.
-    Some (written_by volume error contents (after from.transform transform) refine)
+    Some (properties_by volume error contents (after from.transform transform) refine)
 
 -- the name of a child: its parent's, and its place among the children from 0
 abbrev pub child_name : List ℕ → ℕ → List ℕ
@@ -298,9 +268,9 @@ abbrev mutual
   tile_tree name from (list items) = None
   tile_tree name from (object members) =
       tile_members (pairs_of members) >>= λ own.
-      written_tile from own >>= λ written.
-      children_in name written.handed members >>= λ children.
-      Some (tile name written.facts written.contents children)
+      tile_properties from own >>= λ properties.
+      children_in name properties.inherited members >>= λ children.
+      Some (explicit_tile name properties.facts properties.contents children)
 
   -- the trees of the member `children`, or none where there is no such member
   pub children_in : List ℕ → Inherited → Pairs → Option Trees
@@ -326,10 +296,6 @@ abbrev mutual
 
 -- ---- documents
 
--- how many tiles a document has at most
-abbrev pub tile_limit : ℕ
-tile_limit = 65535
-
 -- the root begins with no transform and is refined by REPLACE where it doesn't say how
 abbrev pub at_root : Inherited
 at_root = record { transform = identity; refine = Replace }
@@ -345,7 +311,7 @@ abbrev pub asset_of : JsonValue → Option (List ℕ)
 asset_of v = only_member (codes "version") v >>= λ version. text_of version >>= version_of
 
 abbrev pub within_tiles : Tree → Option Tree
-within_tiles t = if nat_le (tree_size t) tile_limit then Some t else None
+within_tiles t = if nat_le (tree_size t) TILE_LIMIT then Some t else None
 
 -- the tree of the root tile
 abbrev pub root_tree : JsonValue → Option Tree

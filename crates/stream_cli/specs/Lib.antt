@@ -4,6 +4,7 @@ pub mod Documents
 pub mod Form
 pub mod Listed
 pub mod Members
+pub mod Numbers
 pub mod Nodes
 pub mod Report
 pub mod Runs

@@ -1,19 +1,19 @@
--- The values of members by their names, as references give them.
+-- The values of members by their names, as the handles on a JSON text give them.
 use Rattle.std.specs.Prelude.{ℕ, Bool, true, not, ◌&&◌, if◌then◌else◌, List, [], ◌∷◌, map, Option, Some, None, option_map, bytes_eq}
 use Rattle.std.specs.Borrow.{Bor}
-use Rattle.json_decimal.specs.declared.json.Json.{Json}
+use Rattle.json_decimal.specs.declared.json_ref.JsonRef.{JsonRef}
+use Rattle.json_decimal.specs.Handles.{json_of}
 use Rattle.json_decimal.specs.JsonValue.{JsonValue}
-use Rattle.json_decimal.specs.View.{value_of}
-use Rattle.stream_cli.specs.declared.tile_members.TileMembers.{TileMembers}
-use Rattle.stream_cli.specs.Form.{◌>>=◌, is_among, TileValues}
+use Rattle.stream_cli.specs.declared.tile_members.TileMembers as kept
+use Rattle.stream_cli.specs.Form.{◌>>=◌, is_among, TileMembers}
 
 abbrev pub plain : List (Bor (List ℕ)) → List (List ℕ)
 plain names = map (λ (name : Bor (List ℕ)). name.now) names
 
-abbrev pub value_seen : Option (Bor Json) → Option JsonValue
-value_seen value = option_map (λ (v : Bor Json). value_of v.now) value
+abbrev pub value_seen : Option JsonRef → Option JsonValue
+value_seen value = option_map json_of value
 
-abbrev pub seen : List (Option (Bor Json)) → List (Option JsonValue)
+abbrev pub seen : List (Option JsonRef) → List (Option JsonValue)
 seen values = map value_seen values
 
 -- no name comes twice
@@ -21,7 +21,7 @@ abbrev pub are_distinct : List (List ℕ) → Bool
 are_distinct [] = true
 are_distinct (name ∷ names) = not (is_among names name) && are_distinct names
 
-abbrev pub values_seen : TileMembers → TileValues
+abbrev pub values_seen : kept.TileMembers → TileMembers
 values_seen members = record {
   bounding_volume = value_seen members.bounding_volume;
   geometric_error = value_seen members.geometric_error;

@@ -1,14 +1,10 @@
 -- A list of nodes, and the trees that it stands for.
 use Rattle.std.specs.Prelude.{ℕ, ◌≡◌, ◌+◌, ◌≤◌, Option, Some, None, List, [], ◌∷◌, take, drop, slice_get, false}
 use Rattle.volumes.specs.declared.volume.Volume.{Volume}
-use Rattle.source_port.specs.declared.key.Refine.{Refine}
-use Rattle.cut_core.specs.Facts.{Facts}
-use Rattle.cut_core.specs.Tree.{Tree, tile, Trees, no_trees, more_trees}
+use Rattle.tile_types.specs.declared.refine.Refine.{Refine}
+use Rattle.expanded_tree.specs.Facts.{Facts}
+use Rattle.expanded_tree.specs.Tree.{Tree, explicit_tile, from_list}
 use Rattle.stream_cli.specs.declared.node.TileNode.{TileNode}
-
-abbrev pub from_list : List Tree → Trees
-from_list [] = no_trees
-from_list (t ∷ ts) = more_trees t (from_list ts)
 
 -- the facts of a tile that has no viewer request volume and no external content
 abbrev pub tile_facts : Volume → ℕ → Refine → Facts
@@ -20,7 +16,7 @@ contents_by (Some uri) = uri ∷ []
 
 -- the tree of a node with these children
 abbrev pub tree_with : TileNode → List Tree → Tree
-tree_with node children = tile node.name (tile_facts node.volume node.error node.refine) (contents_by node.content) (from_list children)
+tree_with node children = explicit_tile node.name (tile_facts node.volume node.error node.refine) (contents_by node.content) (from_list children)
 
 -- the tree of a node, of which these trees stand behind it
 unfoldable pub tree_of : TileNode → List Tree → Tree

@@ -4,8 +4,8 @@ ghost use Rattle.std.specs.Prelude.{◌≡◌, IfOk};
 ghost use Rattle.stream_cli.specs.Causes.{absence_name, fault_line, status_of};
 
 use crate::document::DocumentError;
-use source_port::Text;
 use std::alloc::{AllocError, AllocFailed, Global};
+use tile_types::Text;
 
 /// What a run ends with.
 #[derive(Clone, Copy, Debug, PartialEq, Eq)]

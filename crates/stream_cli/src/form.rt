@@ -1,3 +1,5 @@
+//! Why a part of a document isn't read: the error of the functions that read tiles.
+
 ghost use Rattle.stream_cli.specs.declared.form.FormError.TheVariants.{OutOfMemory};
 ghost use Rattle.std.specs.Prelude.{◌≡◌};
 

@@ -1,22 +1,24 @@
 //! The lines of the ideal cut of a document.
 
 ghost use Rattle.std.specs.Prelude.{◌≡◌, ◌≢◌, ◌<◌, IfOk, Some, option_map, codes, length, vec_len};
-ghost use Rattle.json_decimal.specs.View.{value_of};
+ghost use Rattle.json_decimal.specs.Grammar.{max_length};
+ghost use Rattle.json_decimal.specs.Handles.{json_of, text_in};
 ghost use Rattle.json_decimal.specs.Reading.{value_in};
 ghost use Rattle.stream_cli.specs.Documents.{AreIdealLines, document, nothing_absent, Reads};
 ghost use Rattle.stream_cli.specs.Form.{asset_of, root_value};
-ghost use Rattle.stream_cli.specs.Nodes.{root_of};
+ghost use Rattle.stream_cli.specs.Nodes.{HasRoom, root_of};
 ghost use Rattle.stream_cli.specs.declared.document.DocumentError.TheVariants as documents;
 
 use crate::form::FormError;
 use crate::listed::ListedTree;
-use crate::members::{members_of, number_of, only_member, put_named, text_of};
+use crate::members::{only_member, put_named};
+use crate::node::TileNode;
 use crate::tiles::read_nodes;
 use cut_core::{CutError, CutList, Holdings, ideal};
 use error_test::View;
-use json_decimal::{Json, JsonError, parse};
-use source_port::Text;
+use json_decimal::{JsonError, JsonRef, JsonString, JsonText};
 use std::alloc::Global;
+use tile_types::Text;
 
 /// The members of the top object (OGC 22-025r4, "Tileset JSON").
 const TOP_NAMES: [&str; 3] = ["asset", "geometricError", "root"];
@@ -28,6 +30,8 @@ pub enum DocumentFault {
     NotJson,
     /// It isn't of the form that is read so far.
     NotYet,
+    /// It has more bytes than a JSON text may have.
+    TooLong,
     /// Memory ran out.
     OutOfMemory,
 }
@@ -37,7 +41,7 @@ pub enum DocumentFault {
 struct EverythingThere;
 
 impl Holdings for EverythingThere {
-    ghost held = { λ _. nothing_absent };
+    ghost holdings = { λ _. nothing_absent };
 
     fn resident(&self, _address: &Text) -> bool {
         true
@@ -49,38 +53,59 @@ impl Holdings for EverythingThere {
 }
 
 /// The version of an asset that is read (OGC 22-025r4, "Asset").
-fn asset_of(value: &Json) -> Option<&str>
-    ensures { option_map (λ version. version.now) result ≡ asset_of (value_of value.now) }
+fn asset_of(value: JsonRef<'_>) -> Option<JsonString<'_>>
+    ensures { option_map text_in result ≡ asset_of (json_of value.entry) }
 {
-    let version = text_of(only_member("version", value)?)?;
-    if version == "1.0" || version == "1.1" {
+    let version = only_member("version", value)?.text()?;
+    if version.is("1.0") || version.is("1.1") {
         return Some(version);
     }
     None
 }
 
 /// The root tile of a document.
-fn root_value(json: &Json) -> Option<&Json>
-    ensures { option_map (λ root. value_of root.now) result ≡ root_value (value_of json.now) }
+fn root_value(value: JsonRef<'_>) -> Option<JsonRef<'_>>
+    ensures { option_map json_of result ≡ root_value (json_of value.entry) }
 {
     let mut values = [None; 3];
-    put_named(&TOP_NAMES, &mut values, members_of(json)?)?;
+    put_named(&TOP_NAMES, &mut values, value.members()?)?;
     let [asset, error, root] = values;
     asset_of(asset?)?;
-    number_of(error?)?;
+    error?.number()?;
     root
 }
 
-/// The value of a document, whose bytes are let go.
-fn parse_whole(alloc: Global, bytes: Vec<u8>) -> Result<Json, DocumentFault>
-    ensures value { IfOk result (λ json. value_in bytes.items ≡ Some (value_of json)) }
+/// The text of a document.
+fn read_text(alloc: Global, bytes: Vec<u8>) -> Result<JsonText, DocumentFault>
+    ensures value { IfOk result (λ text. value_in bytes.items ≡ Some text) }
     ensures not_json { result ≡ Err DocumentFault.NotJson → document bytes.items ≡ Err documents.NotJson }
+    ensures too_long { result ≡ Err DocumentFault.TooLong → max_length < length bytes.items }
     ensures read { result ≢ Err DocumentFault.NotYet }
 {
-    match parse(alloc, &bytes) {
-        Ok(json) => Ok(json),
+    match JsonText::read(alloc, bytes) {
+        Ok(text) => Ok(text),
         Err(JsonError::NotJson) => Err(DocumentFault::NotJson),
+        Err(JsonError::TooLong) => Err(DocumentFault::TooLong),
         Err(JsonError::OutOfMemory) => Err(DocumentFault::OutOfMemory),
+    }
+}
+
+/// The tiles of a document. The document is let go.
+fn read_document(alloc: Global, bytes: Vec<u8>) -> Result<Vec<TileNode>, DocumentFault>
+    ensures tree { IfOk result (λ nodes. Reads bytes.items (root_of nodes.items)) }
+    ensures room { IfOk result (λ nodes. HasRoom (length nodes.items) nodes.items) }
+    ensures not_json { result ≡ Err DocumentFault.NotJson → document bytes.items ≡ Err documents.NotJson }
+    ensures not_yet { result ≡ Err DocumentFault.NotYet → document bytes.items ≡ Err documents.NotYet }
+    ensures too_long { result ≡ Err DocumentFault.TooLong → max_length < length bytes.items }
+{
+    let text = read_text(alloc, bytes)?;
+    let Some(root) = root_value(text.root()) else {
+        return Err(DocumentFault::NotYet);
+    };
+    match read_nodes(alloc, root) {
+        Ok(nodes) => Ok(nodes),
+        Err(FormError::NotYet) => Err(DocumentFault::NotYet),
+        Err(FormError::OutOfMemory) => Err(DocumentFault::OutOfMemory),
     }
 }
 
@@ -89,20 +114,10 @@ fn read_tree(alloc: Global, bytes: Vec<u8>) -> Result<ListedTree, DocumentFault>
     ensures tree { IfOk result (λ t. Reads bytes.items (root_of t.nodes.items)) }
     ensures not_json { result ≡ Err DocumentFault.NotJson → document bytes.items ≡ Err documents.NotJson }
     ensures not_yet { result ≡ Err DocumentFault.NotYet → document bytes.items ≡ Err documents.NotYet }
+    ensures too_long { result ≡ Err DocumentFault.TooLong → max_length < length bytes.items }
 {
-    let json = parse_whole(alloc, bytes)?;
-    let Some(root) = root_value(&json) else {
-        return Err(DocumentFault::NotYet);
-    };
-    let nodes = match read_nodes(alloc, root) {
-        Ok(nodes) => nodes,
-        Err(FormError::NotYet) => return Err(DocumentFault::NotYet),
-        Err(FormError::OutOfMemory) => return Err(DocumentFault::OutOfMemory),
-    };
-    match ListedTree::new(alloc, nodes) {
-        Ok(tree) => Ok(tree),
-        Err(_) => Err(DocumentFault::OutOfMemory),
-    }
+    let nodes = read_document(alloc, bytes)?;
+    Ok(ListedTree::new(alloc, nodes))
 }
 
 /// The lines of the ideal cut of a view over the tiles of a document, as if every content were there.
@@ -110,6 +125,7 @@ pub fn ideal_lines(alloc: Global, bytes: Vec<u8>, view: &View) -> Result<CutList
     ensures lines { IfOk result (λ lines. AreIdealLines bytes.items view.now lines) }
     ensures not_json { result ≡ Err DocumentFault.NotJson → document bytes.items ≡ Err documents.NotJson }
     ensures not_yet { result ≡ Err DocumentFault.NotYet → document bytes.items ≡ Err documents.NotYet }
+    ensures too_long { result ≡ Err DocumentFault.TooLong → max_length < length bytes.items }
 {
     let mut tree = read_tree(alloc, bytes)?;
     match ideal(alloc, &mut tree, &EverythingThere, view) {

@@ -1,48 +1,49 @@
 //! The tiles of a document as a tile tree.
 
-ghost use Rattle.std.specs.Prelude.{◌≡◌, IfOk, length, replicate, false};
+ghost use Rattle.std.specs.Prelude.{◌≡◌, length};
 ghost use Rattle.stream_cli.specs.Listed.{standing_of};
 ghost use Rattle.stream_cli.specs.Nodes.{HasRoom};
 
 use crate::node::TileNode;
-use cut_core::{Node, NodeFacts, TileTree};
-use source_port::{Key, Text};
+use expanded_tree::{Node, NodeFacts, TileTree};
 use std::alloc::{AllocError, Global};
+use tile_types::{Key, Text};
 
-/// A list of nodes with their marks, which say what was opened since the last `top`.
+/// A list of nodes, and those that were opened since the last `top`.
 #[derive(Debug, Drop)]
 pub struct ListedTree {
     nodes: Vec<TileNode>,
-    marks: Vec<bool>,
+    opened: Vec<Node>,
     ghost room: { HasRoom (length nodes.items) nodes.items },
-    ghost marked: { length marks.items ≡ length nodes.items },
 }
 
 impl ListedTree {
     ghost use Rattle.stream_cli.specs.Nodes.{root_of};
 
     /// The tree whose root is the first of the nodes.
-    pub fn new(alloc: Global, nodes: Vec<TileNode>) -> Result<ListedTree, AllocError>
+    pub fn new(alloc: Global, nodes: Vec<TileNode>) -> ListedTree
         requires { HasRoom (length nodes.items) nodes.items }
-        ensures { IfOk result (λ t. t.nodes.items ≡ nodes.items) }
+        ensures { result.nodes.items ≡ nodes.items }
     {
-        let marks = vec![in alloc; false; nodes.len()]?;
-        Ok(ListedTree { nodes, marks })
+        ListedTree {
+            nodes,
+            opened: Vec::new(alloc),
+        }
     }
 }
 
-/// Sets no mark any more.
-fn clear(marks: &mut Vec<bool>)
-    ensures { marks.new.items ≡ replicate (length marks.old.items) false }
-{
-    marks.fill(false);
-}
-
 impl TileTree for ListedTree {
-    ghost standing = { λ t. standing_of t.nodes.items t.marks.items };
+    ghost use Rattle.std.specs.Prelude.{List};
+    ghost use Rattle.stream_cli.specs.declared.node.TileNode.{TileNode};
+
+    ghost Basis = { List TileNode };
+
+    ghost basis = { λ t. t.nodes.items };
+
+    ghost standing = { λ t. standing_of t.nodes.items t.opened.items };
 
     fn top(&mut self, _alloc: Global) -> Result<Option<Node>, AllocError> {
-        clear(&mut self.marks);
+        self.opened.clear();
         if self.nodes.len() == 0 {
             return Ok(None);
         }
@@ -61,9 +62,8 @@ impl TileTree for ListedTree {
     }
 
     fn open_children(&mut self, _alloc: Global, node: Node) -> Result<u32, AllocError> {
-        let at = node.number as usize;
-        self.marks[at] = true;
-        Ok(self.nodes[at].count)
+        self.opened.push(node)?;
+        Ok(self.nodes[node.number as usize].count)
     }
 
     fn child(&self, node: Node, i: u32) -> Node {

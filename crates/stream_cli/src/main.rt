@@ -2,17 +2,18 @@
 //! standard output.
 #![tactic(auto)]
 
-ghost use Rattle.std.specs.Prelude.{◌≡◌, ◌⊎◌, IfErr, IfOk};
-ghost use Rattle.stream_cli.specs.Causes.{status_of};
-
 mod cause;
+mod command;
+mod commands;
 mod document;
 mod ended;
+mod fetching;
 mod form;
 mod lines;
 mod listed;
 mod members;
 mod node;
+mod program;
 mod report;
 mod run;
 #[cfg(test)]
@@ -20,56 +21,35 @@ mod tests;
 mod tile;
 mod tile_members;
 mod tiles;
+mod unchecked;
 mod waiting;
 mod words;
 mod written;
 
-use crate::cause::Cause;
 use crate::ended::Ended;
-use crate::run::run_plain;
+use crate::program::{finish, read_arguments, run_arguments};
 use source_port::{DirSource, StdSink};
 use std::env;
-use std::io::ErrorKind;
+use std::io::Write;
 use std::process::ExitCode;
 use std::rt::Runtime;
 use std::thread::Threads;
 
 fn main(rt: HostRuntime) -> ExitCode {
-    let ended = match run_words(&rt) {
-        Ok(ended) => ended,
+    run_program(&rt, &mut rt.stderr())
+}
+
+/// Runs the program's arguments over the files below the current folder and standard output. The line of a
+/// fault is written to `errors`.
+fn run_program<R: Runtime + AllocGlobal + Threads + Sync, E: Write>(
+    rt: &R,
+    errors: &mut E,
+) -> ExitCode {
+    let mut source = DirSource::new(rt);
+    let mut out = StdSink::new(rt);
+    let ended = match read_arguments(rt.alloc(), env::args(rt)) {
+        Ok(arguments) => run_arguments(rt, rt.alloc(), &arguments, &mut source, &mut out),
         Err(cause) => Ended::by(cause),
     };
-    print_fault(&rt, &ended);
-    ExitCode::from(ended.status)
-}
-
-/// Runs the words behind the program's name. A word that isn't UTF-8 is none of a command.
-fn run_words<R: Runtime + AllocGlobal + Threads + Sync>(rt: &R) -> Result<Ended, Cause>
-    ensures status { IfOk result (λ ended. ended.status ≡ status_of ended.cause) }
-    ensures refused { IfErr result (λ cause. (cause ≡ Cause.Words) ⊎ (cause ≡ Cause.Memory)) }
-{
-    let arguments = match env::args(rt) {
-        Ok(arguments) => arguments,
-        Err(error) if error.kind() == ErrorKind::OutOfMemory => return Err(Cause::Memory),
-        Err(_) => return Err(Cause::Words),
-    };
-    let arguments: Vec<String> = arguments.skip(1).collect(rt.alloc())?;
-    let mut words = Vec::new(rt.alloc());
-    for argument in &arguments {
-        words.push(argument.as_str())?;
-    }
-    let mut source = DirSource::new(rt.clone()?);
-    let mut out = StdSink::new(rt.clone()?);
-    Ok(run_plain(rt, rt.alloc(), words.as_slice(), &mut source, &mut out))
-}
-
-/// Writes the line of a fault to standard error, if there is memory for it.
-fn print_fault<R: Eprint + AllocGlobal>(rt: &R, ended: &Ended) {
-    if ended.status == 0 {
-        return;
-    }
-    if let Ok(line) = ended.cause.line(rt.alloc()) {
-        let line = line.as_str();
-        drop(eprint!(rt; "{line}"));
-    }
+    finish(rt.alloc(), &ended, errors).code
 }

@@ -1,7 +1,9 @@
+//! A node of the list of a document's tiles.
+
 ghost use Rattle.std.specs.Prelude.{◌≤◌};
 ghost use Rattle.volumes.specs.Limits.{IsInRange, error_limit};
 
-use source_port::{Refine, Text};
+use tile_types::{Refine, Text};
 use volumes::Volume;
 
 /// A tile of a document, in a list of them (OGC 22-025r4, "Tiles"). Its children are the `count` nodes behind

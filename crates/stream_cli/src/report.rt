@@ -1,11 +1,8 @@
 //! The texts that are printed.
 
-ghost use Rattle.std.specs.Prelude.{◌≡◌, OnOk, OnErr, IfOk};
-ghost use Rattle.std.specs.Io.KnownBytes.{Appends};
-ghost use Rattle.std.specs.List.{flat_map};
-ghost use Rattle.source_port.specs.Faults.{HasRisen};
-ghost use Rattle.source_port.specs.Written.{AppendsPrefix};
+ghost use Rattle.std.specs.Prelude.{◌≡◌, OnOk, IfOk, map};
 ghost use Rattle.stream_cli.specs.Report.{count_line, cut_text, shown_line};
+ghost use Rattle.stream_cli.specs.Runs.{PutsLines, out_run};
 
 use cut_core::{CutLine, CutList};
 use itoa::Buffer;
@@ -17,15 +14,15 @@ const COMMON_LINE: usize = 128;
 
 /// Prints a cut: `cut COUNT`, and `show TILE` for each of its lines. Each printed line is one put.
 pub fn print_cut<W: Sink>(alloc: Global, lines: &CutList, out: &mut W) -> Result<(), PutError>
-    ensures printed { OnOk result (Appends (W.written out.old) (W.written out.new) (cut_text lines.now)) }
-    ensures refused { OnErr result
-        (AppendsPrefix (W.written out.old) (W.written out.new) (cut_text lines.now)) }
-    ensures failed { result ≡ Err PutError.SinkFailed → HasRisen (W.faults out.old) (W.faults out.new) }
+    ensures { PutsLines result (out_run W.written W.faults W.puts out.old out.new) (cut_text lines.now) }
 {
     let Ok(mut line) = count_line(alloc, lines.len()) else {
         return Err(PutError::OutOfMemory);
     };
-    out.put(alloc, line.as_slice())?;
+    match out.put(alloc, line.as_slice()) {
+        Ok(()) => {}
+        Err(cause) => return Err(cause),
+    }
     put_shown(alloc, &mut line, lines.as_slice(), out)
 }
 
@@ -36,17 +33,16 @@ fn put_shown<W: Sink>(
     lines: &[CutLine],
     out: &mut W,
 ) -> Result<(), PutError>
-    ensures printed { OnOk result
-        (Appends (W.written out.old) (W.written out.new) (flat_map shown_line lines.now)) }
-    ensures refused { OnErr result
-        (AppendsPrefix (W.written out.old) (W.written out.new) (flat_map shown_line lines.now)) }
-    ensures failed { result ≡ Err PutError.SinkFailed → HasRisen (W.faults out.old) (W.faults out.new) }
+    ensures { PutsLines result (out_run W.written W.faults W.puts out.old out.new)
+        (map shown_line lines.now) }
 {
     for shown in lines {
         if write_shown(line, shown).is_err() {
             return Err(PutError::OutOfMemory);
         }
-        out.put(alloc, line.as_slice())?;
+        if let Err(cause) = out.put(alloc, line.as_slice()) {
+            return Err(cause);
+        }
     }
     Ok(())
 }

@@ -1,5 +1,9 @@
 //! Runs over documents in memory.
 
+use crate::cause::{Cause, NotHere};
+use crate::document::DocumentError;
+use crate::ended::Ended;
+use crate::program::{finish, read_arguments, run_arguments};
 use crate::report::print_cut;
 use crate::run::run_plain;
 use bytes::Bytes;
@@ -8,7 +12,8 @@ use source_port::{
     FileList, MemorySink, MemorySource, NamedFile, NumberList, PutError, Source, SteadySource, Text,
 };
 use std::alloc::{AllocError, Global};
-use std::process::Abort;
+use std::io;
+use std::process::{Abort, ExitCode};
 use std::test::Fail;
 use std::thread::Threads;
 
@@ -213,6 +218,13 @@ fn documents(rt: HostRuntime) -> Result<(), Fail> {
         }
         .prints("cut 2\n")
         .ends(4, "fault 4 out 1\n"),
+        // A second fetch and a fourth put would fail: there are none.
+        Row {
+            failing_fetches: &[2],
+            failing_puts: &[4],
+            ..Row::new("no call too many", &WORDS, &TWO_CHILDREN)
+        }
+        .prints("cut 2\nshow r/0\nshow r/1\n"),
     ];
     check_all(&rt, &rows)
 }
@@ -267,6 +279,34 @@ fn refused_documents(rt: HostRuntime) -> Result<(), Fail> {
     check_all(&rt, &rows)
 }
 
+/// The document of a root of error 0 with so many children.
+fn wide(alloc: Global, children: usize) -> Result<Vec<&'static str>, AllocError> {
+    let mut pieces = Vec::new(alloc);
+    pieces.push(TOP)?;
+    pieces.push(TILE)?;
+    pieces.push(r#"0,"content":{"uri":"a.glb"},"children":["#)?;
+    for place in 0..children {
+        if place > 0 {
+            pieces.push(",")?;
+        }
+        pieces.push(TILE)?;
+        pieces.push("0}")?;
+    }
+    pieces.push("]}}")?;
+    Ok(pieces)
+}
+
+#[test]
+fn as_many_tiles_as_a_document_may_have(rt: HostRuntime) -> Result<(), Fail> {
+    let most = wide(rt.alloc(), 65_534)?;
+    let more = wide(rt.alloc(), 65_535)?;
+    let rows = [
+        Row::new("65,535 tiles", &WORDS, most.as_slice()).prints("cut 1\nshow r\n"),
+        Row::new("65,536 tiles", &WORDS, more.as_slice()).ends(2, NOT_YET),
+    ];
+    check_all(&rt, &rows)
+}
+
 #[test]
 fn each_line_is_one_put(rt: HostRuntime) -> Result<(), Fail> {
     let alloc = rt.alloc();
@@ -287,5 +327,68 @@ fn each_line_is_one_put(rt: HostRuntime) -> Result<(), Fail> {
         );
         assert_eq!(rt; out.bytes(), text.as_bytes(), "behind {done} puts");
     }
+    Ok(())
+}
+
+#[test]
+fn the_words_of_the_program(rt: HostRuntime) -> Result<(), Fail> {
+    let alloc = rt.alloc();
+    let mut given = Vec::new(alloc);
+    for word in ["stream_cli", "cut", "t.json", VIEW] {
+        given.push(String::from_str(alloc, word)?)?;
+    }
+    let given = read_arguments(alloc, Ok(given.into_iter()));
+    let mut source = SteadySource::new(files(alloc, &ONE_TILE)?);
+    let mut out = MemorySink::new(alloc, NumberList::new(alloc));
+    let given = given.unwrap_or(Vec::new(alloc));
+    let ended = run_arguments(&rt, alloc, &given, &mut source, &mut out);
+    assert_eq!(rt; ended.cause, Cause::Done);
+    assert_eq!(rt; out.bytes(), b"cut 1\nshow r\n".as_slice());
+    for (kind, cause) in [
+        (io::ErrorKind::InvalidData, Cause::Words),
+        (io::ErrorKind::OutOfMemory, Cause::Memory),
+    ] {
+        let unread = read_arguments(alloc, Err(io::Error::from(kind)));
+        assert_eq!(rt; unread.err(), Some(cause));
+    }
+    Ok(())
+}
+
+#[test]
+fn how_the_program_ends(rt: HostRuntime) -> Result<(), Fail> {
+    let alloc = rt.alloc();
+    let not_json = DocumentError::NotJson;
+    let too_long = NotHere::TooLong;
+    for (cause, status, line) in [
+        (Cause::Done, 0, ""),
+        (Cause::Words, 1, "fault 1 words\n"),
+        (
+            Cause::Document { cause: not_json },
+            2,
+            "fault 2 document NotJson - -\n",
+        ),
+        (Cause::Source { count: 3 }, 3, "fault 3 source 3\n"),
+        (Cause::Out { count: 1 }, 4, "fault 4 out 1\n"),
+        (Cause::Memory, 7, "fault 7 memory\n"),
+        (
+            Cause::RootAbsent { why: too_long },
+            8,
+            "fault 8 root TooLong\n",
+        ),
+    ] {
+        let mut errors = Vec::new(alloc);
+        let exit = finish(alloc, &Ended::by(cause), &mut errors);
+        assert!(rt; exit.code == ExitCode::from(status));
+        assert!(rt; exit.told);
+        assert_eq!(rt; errors.as_slice(), line.as_bytes());
+    }
+    Ok(())
+}
+
+#[test]
+fn the_arguments_of_a_test_are_no_command(rt: HostRuntime) -> Result<(), Fail> {
+    let mut errors = Vec::new(rt.alloc());
+    assert!(rt; crate::run_program(&rt, &mut errors) == ExitCode::from(1));
+    assert_eq!(rt; errors.as_slice(), b"fault 1 words\n".as_slice());
     Ok(())
 }

@@ -1,27 +1,27 @@
 //! One tile of a document, without its children (OGC 22-025r4, "Tiles").
 
-ghost use Rattle.std.specs.Prelude.{◌≡◌, ◌≤◌, map, option_map};
-ghost use Rattle.json_decimal.specs.View.{value_of};
+ghost use Rattle.std.specs.Prelude.{◌≡◌, ◌≤◌, ◌<◌, Some, None, option_map};
+ghost use Rattle.std.specs.Prelude.{length, IfSome, IfOk, IfErr};
+ghost use Rattle.json_decimal.specs.Handles.{json_of, text_in, items_left};
+ghost use Rattle.json_decimal.specs.Parts.{text_of};
 ghost use Rattle.fixed_geometry.specs.Maps.{after, identity};
 ghost use Rattle.volumes.specs.Limits.{IsInRange, error_limit};
 ghost use Rattle.volumes.specs.Moves.{moved, moved_error};
-ghost use Rattle.stream_cli.specs.Form.{contents_of};
 ghost use Rattle.stream_cli.specs.Members.{value_seen};
-ghost use Rattle.stream_cli.specs.Nodes.{contents_by};
-ghost use Rattle.stream_cli.specs.Waiting.{map_of, own_transform, own_refinement, handed_of};
-ghost use Rattle.stream_cli.specs.Waiting.{child_values, parts_of, parts_seen};
+ghost use Rattle.stream_cli.specs.Waiting.{map_of, own_transform, child_values, children_left};
+ghost use Rattle.stream_cli.specs.Waiting.{string_by, uri_text, unchecked_in, unchecked_of, IsNotWithin};
 
-use crate::members::{items_of, members_of};
+use crate::form::FormError;
+use crate::members::only_member;
 use crate::tile_members::tile_members;
-use crate::waiting::{HandedOn, ReadTile};
-use crate::written::{error_of, refinement_of, transform_of, uri_of, volume_of};
+use crate::unchecked::UncheckedTile;
+use crate::written::{error_of, transform_of, volume_of};
 use fixed_geometry::Affine;
-use json_decimal::Json;
-use source_port::Refine;
+use json_decimal::{JsonItems, JsonRef, JsonString};
 use volumes::{Volume, moved_error};
 
 /// The transform of a tile, which stands for the identity where there is none.
-fn own_transform(value: Option<&Json>) -> Option<Option<Affine>>
+fn own_transform(value: Option<JsonRef<'_>>) -> Option<Option<Affine>>
     ensures { option_map map_of result ≡ own_transform (value_seen value.entry) }
 {
     match value {
@@ -30,22 +30,25 @@ fn own_transform(value: Option<&Json>) -> Option<Option<Affine>>
     }
 }
 
-fn own_refinement(value: Option<&Json>, from: Refine) -> Option<Refine>
-    ensures { result ≡ own_refinement from (value_seen value.entry) }
-{
-    match value {
-        None => Some(from),
-        Some(value) => refinement_of(value),
-    }
-}
-
-fn own_uri(value: Option<&Json>) -> Option<Option<&str>>
-    ensures { option_map (λ uri. contents_by (option_map (λ u. u.now) uri)) result
-        ≡ contents_of (value_seen value.entry) }
+/// The word of the refinement.
+fn refine_string(value: Option<JsonRef<'_>>) -> Option<Option<JsonString<'_>>>
+    ensures { option_map (λ word. option_map text_in word) result
+        ≡ string_by text_of (value_seen value.entry) }
 {
     match value {
         None => Some(None),
-        Some(value) => Some(Some(uri_of(value)?)),
+        Some(value) => Some(Some(value.text()?)),
+    }
+}
+
+/// The address of the content.
+fn uri_string(value: Option<JsonRef<'_>>) -> Option<Option<JsonString<'_>>>
+    ensures { option_map (λ uri. option_map text_in uri) result
+        ≡ string_by uri_text (value_seen value.entry) }
+{
+    match value {
+        None => Some(None),
+        Some(value) => Some(Some(only_member("uri", value)?.text()?)),
     }
 }
 
@@ -54,7 +57,8 @@ fn unchanged(map: &Affine) -> Affine
     ensures parent { result ≡ after map.now identity }
     ensures own { result ≡ after identity map.now }
 {
-    map.prove_bounded();
+    // `max_scale` says too that the map is within its limits, and such a map the identity leaves as it is.
+    let _ = map.max_scale();
     *map
 }
 
@@ -86,7 +90,7 @@ fn unmoved(volume: &Volume) -> Volume
 }
 
 /// The volume under a transform.
-fn moved(volume: &Volume, by: &Option<Affine>) -> Volume
+pub fn moved(volume: &Volume, by: &Option<Affine>) -> Volume
     requires { IsInRange volume.now }
     ensures value { result ≡ moved volume.now (map_of by.now) }
     ensures within { IsInRange result }
@@ -98,7 +102,7 @@ fn moved(volume: &Volume, by: &Option<Affine>) -> Volume
 }
 
 /// The error under a transform, in micrometres.
-fn moved_by(error: u64, by: &Option<Affine>) -> u64
+pub fn moved_by(error: u64, by: &Option<Affine>) -> u64
     requires { error ≤ error_limit }
     ensures value { result ≡ moved_error error (map_of by.now) }
     ensures within { result ≤ error_limit }
@@ -110,31 +114,75 @@ fn moved_by(error: u64, by: &Option<Affine>) -> u64
 }
 
 /// The children of a tile, none where it has no such member.
-fn children_of(value: Option<&Json>) -> Option<&[Json]>
-    ensures { option_map (λ cs. map value_of cs.now) result ≡ child_values (value_seen value.entry) }
+fn children_of(value: Option<JsonRef<'_>>) -> Option<Option<JsonItems<'_>>>
+    ensures { option_map children_left result ≡ child_values (value_seen value.entry) }
 {
     match value {
-        None => Some(&[]),
-        Some(children) => items_of(children),
+        None => Some(None),
+        Some(children) => Some(Some(children.items()?)),
     }
 }
 
-/// What a tile says.
-pub fn read_tile<'a>(from: &HandedOn, tile: &'a Json) -> Option<ReadTile<'a>>
-    ensures { option_map parts_seen result ≡ parts_of (handed_of from.now) (value_of tile.now) }
+/// What a tile says, below a parent of this computed transform.
+fn unchecked_tile<'a>(from: &Option<Affine>, tile: JsonRef<'a>) -> Option<UncheckedTile<'a>>
+    ensures { option_map unchecked_of result ≡ unchecked_in (map_of from.now) (json_of tile.entry) }
 {
-    let own = tile_members(members_of(tile)?)?;
+    let own = tile_members(tile.members()?)?;
     let volume = volume_of(own.bounding_volume?)?;
     let error = error_of(own.geometric_error?)?;
-    let uri = own_uri(own.content)?;
-    let transform = computed(&from.transform, &own_transform(own.transform)?);
-    let refine = own_refinement(own.refine, from.refine)?;
+    let uri = uri_string(own.content)?;
+    let transform = computed(from, &own_transform(own.transform)?);
+    let refine = refine_string(own.refine)?;
     let children = children_of(own.children)?;
-    Some(ReadTile {
-        volume: moved(&volume, &transform),
-        error: moved_by(error, &transform),
-        handed: HandedOn { transform, refine },
+    Some(UncheckedTile {
+        volume,
+        error,
+        transform,
         uri,
+        refine,
         children,
     })
+}
+
+/// How many values are left, if they are no more than there is room for.
+fn count_within(items: Option<JsonItems<'_>>, room: u32) -> Option<u32>
+    ensures count { IfSome result (λ n. n ≡ length (children_left items.entry)) }
+    ensures within { IfSome result (λ n. n ≤ room) }
+    ensures more { result ≡ None → room < length (children_left items.entry) }
+{
+    let Some(mut rest) = items else {
+        return Some(0);
+    };
+    let mut count = 0;
+    while rest.next().is_some() {
+        if count == room {
+            return None;
+        }
+        count += 1;
+    }
+    Some(count)
+}
+
+/// What a tile says, below a parent of this computed transform, and how many children it has, if there is
+/// room for them. It takes no memory.
+pub fn tile_within<'a>(
+    from: &Option<Affine>,
+    tile: JsonRef<'a>,
+    room: u32,
+) -> Result<(UncheckedTile<'a>, u32), FormError>
+    ensures tile { IfOk result (λ t.
+        unchecked_in (map_of from.now) (json_of tile.entry) ≡ Some (unchecked_of t.0)) }
+    ensures count { IfOk result (λ t. t.1 ≡ length (children_left t.0.children)) }
+    ensures within { IfOk result (λ t. t.1 ≤ room) }
+    ensures refused { IfErr result (λ _.
+        IsNotWithin room (unchecked_in (map_of from.now) (json_of tile.entry))) }
+    ensures cause { IfErr result (λ e. e ≡ FormError.NotYet) }
+{
+    let Some(own) = unchecked_tile(from, tile) else {
+        return Err(FormError::NotYet);
+    };
+    let Some(count) = count_within(own.children, room) else {
+        return Err(FormError::NotYet);
+    };
+    Ok((own, count))
 }

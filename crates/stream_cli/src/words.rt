@@ -1,25 +1,56 @@
-//! The words of the commands.
+//! Which words are which command.
 
-ghost use Rattle.std.specs.Prelude.{◌≡◌, IfSome, IsNone};
+ghost use Rattle.std.specs.Prelude.{◌≡◌, ◌++◌, ◌↔◌, IfOk, IfSome, IsErrOf, IsNone, codes};
 ghost use Rattle.std.specs.List.{list_all};
-ghost use Rattle.stream_cli.specs.Commands.{IsCutCommand, IsNoCommand, is_root_byte, is_root_word, texts};
+ghost use Rattle.stream_cli.specs.Commands.{IsCommand, IsCut, IsNoCommand, SomeCommand, is_root_byte};
+ghost use Rattle.stream_cli.specs.Commands.{is_root_word, root_address, texts};
 
+use crate::command::Command;
 use error_test::View;
 use session_script::read_view;
+use std::alloc::{AllocError, Global};
+use tile_types::Text;
 
-/// What `cut ROOT VIEW` asks for: the ideal cut of a view over a root document.
-#[derive(Debug, Drop)]
-pub struct CutWords<'a> {
-    /// The word that names the root document.
-    pub root: &'a str,
-    pub view: View,
+/// Why words give no command.
+#[derive(Clone, Copy, Debug, PartialEq, Eq)]
+pub enum WordsError {
+    /// They are none.
+    NotACommand,
+    /// Memory ran out.
+    OutOfMemory,
 }
 
-/// The command that the words behind the program's name are, if they are one. ROOT is a word of ASCII letters,
-/// digits, `.`, `-` and `_` that doesn't begin with `-`, and VIEW is the text of a view.
-pub fn read_words<'a>(words: &[&'a str]) -> Option<CutWords<'a>>
-    ensures found { IfSome result (λ command.
-        IsCutCommand (texts words.now) command.root.now command.view) }
+/// The command that the words behind the program's name are.
+///
+/// Errors: `NotACommand` exactly where they are none, or `OutOfMemory`.
+pub fn read_words(alloc: Global, words: &[&str]) -> Result<Command, WordsError>
+    ensures found { IfOk result (λ command. IsCommand (texts words.now) command) }
+    ensures unread { IsErrOf result WordsError.OutOfMemory → SomeCommand (texts words.now) }
+    ensures not_a_command { (result ≡ Err WordsError.NotACommand) ↔ IsNoCommand (texts words.now) }
+{
+    let Some(cut) = cut_words(words) else {
+        return Err(WordsError::NotACommand);
+    };
+    match root_address(alloc, cut.root) {
+        Ok(root) => Ok(Command::Cut {
+            root,
+            view: cut.view,
+        }),
+        Err(_) => Err(WordsError::OutOfMemory),
+    }
+}
+
+/// The words behind `cut`.
+#[derive(Drop)]
+struct CutWords<'a> {
+    root: &'a str,
+    view: View,
+}
+
+/// What the words of a `cut` name. ROOT is a word of ASCII letters, digits, `.`, `-` and `_` that doesn't begin
+/// with `-`, and VIEW is the text of a view. Takes no memory.
+fn cut_words<'a>(words: &[&'a str]) -> Option<CutWords<'a>>
+    ensures found { IfSome result (λ cut. IsCut (texts words.now) (root_address cut.root.now) cut.view) }
     ensures none { IsNone result → IsNoCommand (texts words.now) }
 {
     let [command, root, view] = words else {
@@ -32,6 +63,13 @@ pub fn read_words<'a>(words: &[&'a str]) -> Option<CutWords<'a>>
         None => None,
         Some(view) => Some(CutWords { root, view }),
     }
+}
+
+/// The address that a root word is fetched at.
+fn root_address(alloc: Global, root: &str) -> Result<Text, AllocError>
+    ensures { IfOk result (λ address. address ≡ root_address root.now) }
+{
+    Text::of_two(alloc, "http://tiles/", root)
 }
 
 fn is_root_word(word: &str) -> bool

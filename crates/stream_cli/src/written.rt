@@ -1,39 +1,48 @@
 //! What the members of a tile say (OGC 22-025r4, "Tiles").
 
-ghost use Rattle.std.specs.Prelude.{◌≡◌, ◌≤◌, ◌≤ℤ◌, pos, map, option_map, IfSome, unsigned_abs, length};
-ghost use Rattle.json_decimal.specs.View.{value_of};
+ghost use Rattle.std.specs.Prelude.{◌≡◌, ◌≤◌, ◌≤ℤ◌, pos, Some, None, option_map};
+ghost use Rattle.std.specs.Prelude.{IfSome, IfOk, IfErr, unsigned_abs, length};
+ghost use Rattle.std.specs.Str.{str_to_ascii_lowercase};
+ghost use Rattle.json_decimal.specs.Handles.{json_of, items_left};
+ghost use Rattle.fixed_geometry.specs.Decimal.{fixed};
 ghost use Rattle.fixed_geometry.specs.Points.{IsWithin, coordinate_limit};
 ghost use Rattle.volumes.specs.Limits.{IsInRange, error_limit};
-ghost use Rattle.stream_cli.specs.Form.{coordinate, radius, error_of, point_of, first_point};
+ghost use Rattle.stream_cli.specs.Form.{coordinate, radius, error_of, first_point, within_limit};
 ghost use Rattle.stream_cli.specs.Form.{sphere_of, box_of, sphere_in, box_in, volume_of};
-ghost use Rattle.stream_cli.specs.Form.{is_external, uri_of, sixteen_of, transform_of, refinement_of};
+ghost use Rattle.stream_cli.specs.Form.{is_external, own_uri, sixteen_of, transform_of, refinement_word};
+ghost use Rattle.stream_cli.specs.Numbers.{next_coordinate};
 
-use crate::members::{items_of, number_of, only_member, text_of};
-use fixed_geometry::{Affine, Point, Sixteen, scaled, scaled_held};
-use json_decimal::Json;
-use source_port::Refine;
+use crate::form::FormError;
+use crate::members::only_member;
+use fixed_geometry::{
+    Affine, COORDINATE_LIMIT, ERROR_LIMIT, Point, Sixteen, scaled, scaled_clamped,
+};
+use json_decimal::{JsonItems, JsonRef};
+use tile_types::Refine;
 use volumes::Volume;
 
-/// The greatest size of a coordinate, in millimetres.
-const COORDINATE_LIMIT: i128 = 0x10_0000_0000;
-
-/// The greatest error, in micrometres.
-const ERROR_LIMIT: i128 = 0x4_0000_0000_0000;
-
-/// A length in millimetres.
-fn coordinate(value: &Json) -> Option<i64>
-    ensures value { result ≡ coordinate (value_of value.now) }
+/// The length that is spelled here, in millimetres.
+fn millimetres(spelling: &str) -> Option<i64>
+    ensures value { result ≡ within_limit (fixed spelling.now 3) }
     ensures within { IfSome result (λ n. unsigned_abs n ≤ coordinate_limit) }
 {
-    match scaled(number_of(value)?, 3, COORDINATE_LIMIT) {
+    match scaled(spelling, 3, COORDINATE_LIMIT as i128) {
         Ok(n) => Some(n as i64),
         Err(_) => None,
     }
 }
 
+/// A length in millimetres.
+fn coordinate(value: JsonRef<'_>) -> Option<i64>
+    ensures value { result ≡ coordinate (json_of value.entry) }
+    ensures within { IfSome result (λ n. unsigned_abs n ≤ coordinate_limit) }
+{
+    millimetres(value.number()?)
+}
+
 /// A length in millimetres that isn't negative.
-fn radius(value: &Json) -> Option<i64>
-    ensures value { result ≡ radius (value_of value.now) }
+fn radius(value: JsonRef<'_>) -> Option<i64>
+    ensures value { result ≡ radius (json_of value.entry) }
     ensures from { IfSome result (λ n. pos 0 ≤ℤ n) }
     ensures to { IfSome result (λ n. n ≤ℤ pos coordinate_limit) }
 {
@@ -44,88 +53,89 @@ fn radius(value: &Json) -> Option<i64>
     Some(length)
 }
 
-/// An error in micrometres (OGC 22-025r4, "Geometric error"), held at the limit of errors.
-pub fn error_of(value: &Json) -> Option<u64>
-    ensures value { result ≡ error_of (value_of value.now) }
+/// An error in micrometres (OGC 22-025r4, "Geometric error"), clamped to the limit of errors.
+pub fn error_of(value: JsonRef<'_>) -> Option<u64>
+    ensures value { result ≡ error_of (json_of value.entry) }
     ensures within { IfSome result (λ n. n ≤ error_limit) }
 {
-    let error = scaled_held(number_of(value)?, 6, ERROR_LIMIT);
+    let error = scaled_clamped(value.number()?, 6, ERROR_LIMIT as i128);
     if error < 0 {
         return None;
     }
     Some(error as u64)
 }
 
-fn point_of(x: &Json, y: &Json, z: &Json) -> Option<Point>
-    ensures value { result ≡ point_of (value_of x.now) (value_of y.now) (value_of z.now) }
+/// The next value as a coordinate.
+fn next_coordinate(values: &mut JsonItems<'_>) -> Option<i64>
+    ensures value { option_map (λ n. (n, items_left values.new)) result
+        ≡ next_coordinate (items_left values.old) }
+    ensures within { IfSome result (λ n. unsigned_abs n ≤ coordinate_limit) }
+{
+    coordinate(values.next()?)
+}
+
+/// The point of the next three coordinates.
+fn first_point(values: &mut JsonItems<'_>) -> Option<Point>
+    ensures value { option_map (λ p. (p, items_left values.new)) result
+        ≡ first_point (items_left values.old) }
     ensures within { IfSome result (λ p. IsWithin coordinate_limit p) }
 {
-    let x = coordinate(x)?;
-    let y = coordinate(y)?;
-    let z = coordinate(z)?;
+    let x = next_coordinate(values)?;
+    let y = next_coordinate(values)?;
+    let z = next_coordinate(values)?;
     Some(Point { x, y, z })
 }
 
 /// A sphere of four numbers: its centre and its radius.
-fn sphere_of(values: &[Json]) -> Option<Volume>
-    ensures value { result ≡ sphere_of (map value_of values.now) }
+fn sphere_of(values: JsonItems<'_>) -> Option<Volume>
+    ensures value { result ≡ sphere_of (items_left values.entry) }
     ensures within { IfSome result IsInRange }
 {
-    let [x, y, z, size] = values else {
-        return None;
-    };
-    let centre = point_of(x, y, z)?;
-    let radius = radius(size)?;
-    Some(Volume::Ball { centre, radius })
-}
-
-/// The point of the first three numbers, and the values behind them.
-fn first_point(values: &[Json]) -> Option<(Point, &[Json])>
-    ensures value { option_map (λ p. (p.0, map value_of p.1.now)) result
-        ≡ first_point (map value_of values.now) }
-    ensures within { IfSome result (λ p. IsWithin coordinate_limit p.0) }
-{
-    match values {
-        [x, y, z, rest @ ..] => Some((point_of(x, y, z)?, rest)),
-        _ => None,
+    let mut rest = values;
+    let centre = first_point(&mut rest)?;
+    let radius = radius(rest.next()?)?;
+    match rest.next() {
+        None => Some(Volume::Ball { centre, radius }),
+        Some(_) => None,
     }
 }
 
 /// A box of twelve numbers: its centre and its three half axes.
-fn box_of(values: &[Json]) -> Option<Volume>
-    ensures value { result ≡ box_of (map value_of values.now) }
+fn box_of(values: JsonItems<'_>) -> Option<Volume>
+    ensures value { result ≡ box_of (items_left values.entry) }
     ensures within { IfSome result IsInRange }
 {
-    let (centre, rest) = first_point(values)?;
-    let (first, rest) = first_point(rest)?;
-    let (second, rest) = first_point(rest)?;
-    let (third, rest) = first_point(rest)?;
-    match rest {
-        [] => Some(Volume::Oriented {
+    let mut rest = values;
+    let centre = first_point(&mut rest)?;
+    let first = first_point(&mut rest)?;
+    let second = first_point(&mut rest)?;
+    let third = first_point(&mut rest)?;
+    match rest.next() {
+        None => Some(Volume::Oriented {
             centre,
             axes: [first, second, third],
         }),
-        _ => None,
+        Some(_) => None,
     }
 }
 
-fn sphere_in(value: &Json) -> Option<Volume>
-    ensures value { result ≡ sphere_in (value_of value.now) }
+fn sphere_in(value: JsonRef<'_>) -> Option<Volume>
+    ensures value { result ≡ sphere_in (json_of value.entry) }
     ensures within { IfSome result IsInRange }
 {
-    sphere_of(items_of(only_member("sphere", value)?)?)
+    sphere_of(only_member("sphere", value)?.items()?)
 }
 
-fn box_in(value: &Json) -> Option<Volume>
-    ensures value { result ≡ box_in (value_of value.now) }
+fn box_in(value: JsonRef<'_>) -> Option<Volume>
+    ensures value { result ≡ box_in (json_of value.entry) }
     ensures within { IfSome result IsInRange }
 {
-    box_of(items_of(only_member("box", value)?)?)
+    box_of(only_member("box", value)?.items()?)
 }
 
 /// A bounding volume (OGC 22-025r4, "Bounding volumes").
-pub fn volume_of(value: &Json) -> Option<Volume>
-    ensures value { result ≡ volume_of (value_of value.now) }
+pub fn volume_of(value: JsonRef<'_>) -> Option<Volume>
+    ensures value { result ≡ volume_of (json_of value.entry) }
     ensures within { IfSome result IsInRange }
 {
     match sphere_in(value) {
@@ -135,59 +145,62 @@ pub fn volume_of(value: &Json) -> Option<Volume>
 }
 
 /// Whether a text ends in `.json`, in letters of either case.
-fn is_external(uri: &str) -> bool
+pub fn is_external(uri: &str) -> bool
     ensures { result ≡ is_external uri.now }
 {
     let start = uri.len().saturating_sub(5);
     uri.as_bytes()[start..].eq_ignore_ascii_case(b".json")
 }
 
-/// The address of a content (OGC 22-025r4, "Tile content").
-pub fn uri_of(value: &Json) -> Option<&str>
-    ensures { option_map (λ uri. uri.now) result ≡ uri_of (value_of value.now) }
-{
-    let uri = text_of(only_member("uri", value)?)?;
-    if uri.is_empty() || is_external(uri) {
-        return None;
-    }
-    Some(uri)
-}
-
 /// The sixteen numbers of a transform, as a map reads them.
-fn sixteen_of(values: &[Json]) -> Option<Sixteen>
-    ensures value { result ≡ sixteen_of (map value_of values.now) }
+fn sixteen_of(values: JsonItems<'_>) -> Option<Sixteen>
+    ensures value { result ≡ sixteen_of (items_left values.entry) }
     ensures count { IfSome result (λ ns. length ns ≡ 16) }
 {
-    if values.len() != 16 {
-        return None;
-    }
+    let mut rest = values;
     let mut numbers = Sixteen::new();
-    for value in values {
-        numbers.add(number_of(value)?);
+    for index in 0_usize..16 {
+        numbers.add(rest.next()?.number()?);
     }
-    Some(numbers)
+    match rest.next() {
+        None => Some(numbers),
+        Some(_) => None,
+    }
 }
 
 /// The map of a transform (OGC 22-025r4, "Tile transforms").
-pub fn transform_of(value: &Json) -> Option<Affine>
-    ensures { result ≡ transform_of (value_of value.now) }
+pub fn transform_of(value: JsonRef<'_>) -> Option<Affine>
+    ensures { result ≡ transform_of (json_of value.entry) }
 {
-    match Affine::from_sixteen(&sixteen_of(items_of(value)?)?) {
+    match Affine::from_sixteen(&sixteen_of(value.items()?)?) {
         Ok(map) => Some(map),
         Err(_) => None,
     }
 }
 
-/// How a tile is refined (OGC 22-025r4, "Refinement").
-pub fn refinement_of(value: &Json) -> Option<Refine>
-    ensures { result ≡ refinement_of (value_of value.now) }
+/// The address of a content (OGC 22-025r4, "Tile content"): it isn't empty and names no external tileset.
+pub fn own_uri(uri: &str) -> Result<(), FormError>
+    ensures ok { IfOk result (λ _. own_uri uri.now ≡ Some uri.now) }
+    ensures refused { IfErr result (λ _. own_uri uri.now ≡ None) }
+    ensures cause { IfErr result (λ e. e ≡ FormError.NotYet) }
 {
-    let word = text_of(value)?;
+    if uri.is_empty() || is_external(uri) {
+        return Err(FormError::NotYet);
+    }
+    Ok(())
+}
+
+/// How a tile is refined (OGC 22-025r4, "Refinement").
+pub fn refinement_word(word: &str) -> Result<Refine, FormError>
+    ensures ok { IfOk result (λ r. refinement_word (str_to_ascii_lowercase word.now) ≡ Some r) }
+    ensures refused { IfErr result (λ _. refinement_word (str_to_ascii_lowercase word.now) ≡ None) }
+    ensures cause { IfErr result (λ e. e ≡ FormError.NotYet) }
+{
     if word.eq_ignore_ascii_case("add") {
-        return Some(Refine::Add);
+        return Ok(Refine::Add);
     }
     if word.eq_ignore_ascii_case("replace") {
-        return Some(Refine::Replace);
+        return Ok(Refine::Replace);
     }
-    None
+    Err(FormError::NotYet)
 }

@@ -1,15 +1,41 @@
-use Rattle.std.proofs.Common.{◌≡◌, rules}
-use Rattle.source_port.specs.Written.{AppendsPrefix}
+use Rattle.std.proofs.Common.{◌≡◌, ◌≤◌, ◌<◌, length, map, take, rules, refl, ap, ◌∙◌, sym, arith}
+use Rattle.std.proofs.lemmas.List.{length-map, take_all}
+use Rattle.std.specs.List.{flat_map}
+use Rattle.std.specs.Io.KnownBytes.{Appends}
+use Rattle.source_port.specs.Counts.{count_after}
+use Rattle.source_port.specs.Puts.{Writes}
 use Rattle.stream_cli.specs.Report.{shown_line}
-use Rattle.stream_cli.proofs.Prefixes.{stopped_before, stopped_within, on_err}
+use Rattle.stream_cli.proofs.Printing.{OutSide, stops_before, stops_at, puts_all}
 use Rattle.stream_cli.proofs.report.put_shown.Goals as goal
 
-pub returns-then-is_err-clause-refused : goal.returns-then-is_err-clause-refused
-returns-then-is_err-clause-refused g c =
-    stopped_before shown_line c.args.lines.now c.loop-shown.shown-index _ _ c.loop-shown.invariant.put
+pub returns-then-is_err : goal.returns-then-is_err
+returns-then-is_err g c =
+    stops_before shown_line c.args.lines.now c.loop-shown.shown-index _ _ c.loop-shown.invariant.put
 
-pub returns-in_err-put-clause-refused : goal.returns-in_err-put-clause-refused
-returns-in_err-put-clause-refused g c =
+pub returns-in-Err : goal.returns-in-Err
+returns-in-Err g c =
     let line : c.as_slice.result.now ≡ shown_line c.shown-item.result = search rules in
-    let front : AppendsPrefix (g.W.Sink.written c.loop-shown.out) (g.W.Sink.written c.put.new.self) (shown_line c.shown-item.result) = rw line at c.in_err-put.ensures.refused in
-    on_err c.from_residual.result (stopped_within shown_line c.args.lines.now c.loop-shown.shown-index c.shown-item.result _ _ _ c.loop-shown-test.true c.shown-item.is c.loop-shown.invariant.put front)
+    let start : OutSide = record {
+      held = g.W.Sink.written c.args.out.now;
+      faults = g.W.Sink.faults c.args.out.now;
+      puts = g.W.Sink.puts c.args.out.now;
+    } in
+    let now : OutSide = record {
+      held = g.W.Sink.written c.loop-shown.out;
+      faults = g.W.Sink.faults c.loop-shown.out;
+      puts = g.W.Sink.puts c.loop-shown.out;
+    } in
+    let new : OutSide = record {
+      held = g.W.Sink.written c.put.new.self;
+      faults = g.W.Sink.faults c.put.new.self;
+      puts = g.W.Sink.puts c.put.new.self;
+    } in
+    stops_at shown_line c.args.lines.now c.in-Err.cause c.loop-shown.shown-index c.shown-item.result start now new
+    c.loop-shown-test.true c.shown-item.is c.loop-shown.invariant.put c.loop-shown.invariant.counted
+    (rw line at c.in-Err.ensures.written) c.in-Err.ensures.faults
+
+pub returns : goal.returns
+returns g c =
+    puts_all shown_line c.args.lines.now c.loop-shown.shown-index _ _ _ _
+    (omega (arith, c.loop-shown-test.false)) (omega (arith, c.loop-shown.auto.shown-index-end))
+    c.loop-shown.invariant.put c.loop-shown.invariant.puts

@@ -1,12 +1,21 @@
-use Rattle.std.proofs.Common.{rules, ◌≡◌, [], List, ℕ, slice_index_or, Bor, codes, refl}
-use Rattle.stream_cli.proofs.ThreeWords.{three_words}
+use Rattle.stream_cli.specs.Commands.{root_address}
+use Rattle.stream_cli.specs.declared.command.Command.TheVariants.{Cut}
 use Rattle.stream_cli.proofs.words.read_words.Goals as goal
 
--- The three words are those of the command.
-pub returns-in-Some-clause-found : goal.returns-in-Some-clause-found
-returns-in-Some-clause-found c =
-    let none : Bor (List ℕ) = record { ref_ptr = (0, 0); now = [] } in
-    let same = three_words c.args.words.now none c.in-len3.len_at_least c.in-len3.len_below in
-    let first : (slice_index_or c.args.words.now 0 none).now ≡ codes "cut" = search rules in
-    let third = c.in-Some.ensures.found in
-    record { spelled = rw (same, first, third) refl; is_root = search rules; within_limits = c.in-Some.ensures.within }
+pub returns-in-Ok-clause-not_a_command : goal.returns-in-Ok-clause-not_a_command
+returns-in-Ok-clause-not_a_command c = (
+  λ e. absurd cc,
+  λ none. absurd (none (Cut (root_address c.in-Some.cut.root.now) c.in-Some.cut.view) c.in-Some.ensures.found),
+)
+
+pub returns-in-Err-clause-not_a_command : goal.returns-in-Err-clause-not_a_command
+returns-in-Err-clause-not_a_command c = (
+  λ e. absurd cc,
+  λ none. absurd (none (Cut (root_address c.in-Some.cut.root.now) c.in-Some.cut.view) c.in-Some.ensures.found),
+)
+
+pub returns-in-Err-clause-unread : goal.returns-in-Err-clause-unread
+returns-in-Err-clause-unread c memory = record {
+  command = Cut (root_address c.in-Some.cut.root.now) c.in-Some.cut.view;
+  is_command = c.in-Some.ensures.found;
+}

@@ -1,5 +1,4 @@
 use Rattle.std.proofs.Common.{rules, ◌<◌, length, arith}
-use Rattle.stream_cli.proofs.Marks.{none_opened}
 use Rattle.stream_cli.proofs.NodeTrees.{no_root, a_root}
 use Rattle.stream_cli.proofs.listed.ListedTreeTileTree.top.Goals as goal
 
@@ -11,6 +10,3 @@ pub returns-clause-root : goal.returns-clause-root
 returns-clause-root c =
     let some : 0 < length c.args.self.now.nodes.items = omega (arith, c.if-len-eq0.false, c.len.ensures, c.args.self.now.nodes.ok.0) in
     (search (rules, some), a_root c.args.self.now.nodes.items some)
-
-pub returns-clause-opened : goal.returns-clause-opened
-returns-clause-opened c = none_opened c.args.self.now.nodes.items c.clear.new.marks.items (length c.args.self.now.marks.items) c.clear.ensures

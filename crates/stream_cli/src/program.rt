@@ -1,0 +1,95 @@
+//! The program around the run of its words: the arguments that it is given, and how it ends.
+
+ghost use Rattle.std.specs.Prelude.{◌≡◌, ◌≢◌, IfErr, IfOk};
+ghost use Rattle.std.specs.Bool.{OnTrue};
+ghost use Rattle.std.specs.Io.KnownBytes.{Appends};
+ghost use Rattle.std.specs.IoError.{error_kind};
+ghost use Rattle.std.specs.Process.{exit_status};
+ghost use Rattle.stream_cli.specs.Causes.{fault_line, status_of};
+ghost use Rattle.stream_cli.specs.Commands.{IsNoCommand, texts, words_behind};
+ghost use Rattle.stream_cli.specs.Runs.{Runs, out_run, source_run};
+
+use crate::cause::Cause;
+use crate::ended::Ended;
+use crate::run::run_plain;
+use source_port::{Sink, Source};
+use std::alloc::{AllocError, Global};
+use std::env::Args;
+use std::io;
+use std::io::{ErrorKind, Write};
+use std::process::ExitCode;
+use std::thread::Threads;
+
+/// The arguments of the program, or what it ends with: one that isn't UTF-8 is none of a command.
+pub fn read_arguments(alloc: Global, arguments: io::Result<Args>) -> Result<Vec<String>, Cause>
+    ensures unread { IfErr arguments (λ error. error_kind error ≢ ErrorKind.OutOfMemory
+        → result ≡ Err Cause.Words) }
+    ensures refused { IfErr result (λ cause. IfOk arguments (λ _. cause ≡ Cause.Memory)) }
+{
+    match arguments {
+        Ok(arguments) => match arguments.collect(alloc) {
+            Ok(arguments) => Ok(arguments),
+            Err(_) => Err(Cause::Memory),
+        },
+        Err(error) if error.kind() == ErrorKind::OutOfMemory => Err(Cause::Memory),
+        Err(_) => Err(Cause::Words),
+    }
+}
+
+/// Runs the words behind the program's name, which its arguments begin with.
+pub fn run_arguments<R: Threads + Sync, S: Source, W: Sink>(
+    rt: &R,
+    alloc: Global,
+    arguments: &[String],
+    source: &mut S,
+    out: &mut W,
+) -> Ended
+    ensures status { result.status ≡ status_of result.cause }
+    ensures words { result.cause ≡ Cause.Words → IsNoCommand (words_behind arguments.now) }
+    ensures runs { result.cause ≢ Cause.Words → result.cause ≢ Cause.Memory
+        → Runs (words_behind arguments.now)
+        (source_run S.library S.faults S.fetches source.old source.new)
+        (out_run W.written W.faults W.puts out.old out.new)
+        (out.new ≡ out.old) result.cause }
+{
+    match words_of(alloc, arguments) {
+        Ok(words) => run_plain(rt, alloc, words.as_slice(), source, out),
+        Err(_) => Ended::by(Cause::Memory),
+    }
+}
+
+fn words_of(alloc: Global, arguments: &[String]) -> Result<Vec<&str>, AllocError>
+    ensures { IfOk result (λ words. texts words.items ≡ words_behind arguments.now) }
+{
+    let mut words = Vec::new(alloc);
+    let Some((_name, behind)) = arguments.split_first() else {
+        return Ok(words);
+    };
+    for word in behind {
+        words.push(word.as_str())?;
+    }
+    Ok(words)
+}
+
+/// How a program ends: with this exit code, and whether the line of its fault was written whole.
+#[derive(Clone, Copy)]
+pub struct Exit {
+    pub code: ExitCode,
+    pub told: bool,
+}
+
+/// Writes the line of a run's cause, if there is memory for it; a run that is done has none.
+pub fn finish<W: Write>(alloc: Global, ended: &Ended, errors: &mut W) -> Exit
+    ensures status { exit_status result.code ≡ ended.now.status }
+    ensures told { OnTrue result.told
+        (Appends (W.contents errors.old) (W.contents errors.new) (fault_line ended.now.cause)) }
+{
+    let told = match ended.cause.line(alloc) {
+        Ok(line) => errors.write_all(line.as_str().as_bytes()).is_ok(),
+        Err(_) => false,
+    };
+    Exit {
+        code: ExitCode::from(ended.status),
+        told,
+    }
+}
