@@ -76,8 +76,7 @@ cut kind before [] plain = record {
   rest = [];
   is = refl;
   inner = All-nil IsInner;
-  start =
-      λ e dot. omega arith;
+  start = λ e dot. omega arith;
   each = All-nil (IsSegment kind);
 }
 cut kind before (b ∷ text) plain =
@@ -99,7 +98,8 @@ cut kind before (b ∷ text) plain =
       rest = later.rest;
       is = ap (λ l. b ∷ l) later.is;
       inner = All-cons IsInner b later.front (here.0, other) later.inner;
-      start = λ e dot. let is_dot : b ≡ 46 = dot in
+      start = λ e dot.
+          let is_dot : b ≡ 46 = dot in
           let no : not (before == 47 && (b == 46 || b == 47)) ≡ true = here.1 in
           grind (arith, nat_tests);
       each = later.each;
@@ -144,10 +144,12 @@ no_colon : (text : List ℕ) (n : ℕ) → All (Passes is_plain_byte) text
     → (get_or text n 0 == 58) ≡ false
 no_colon text n plain =
     ⊎_elim
-    (λ (inside : ltb n (length text) ≡ true). let here = plain n 0 (grind (arith, nat_tests)) in
+    (λ (inside : ltb n (length text) ≡ true).
+    let here = plain n 0 (grind (arith, nat_tests)) in
     grind (arith, nat_tests))
-    (λ (outside : ltb n (length text) ≡ false). let none =
-    get_or-eq_default text 0 {n = n} (grind (arith, nat_tests)) in rw none refl)
+    (λ (outside : ltb n (length text) ≡ false).
+    let none = get_or-eq_default text 0 {n = n} (grind (arith, nat_tests)) in
+    rw none refl)
     (cases_Bool (ltb n (length text)))
 
 no_scheme : (text : List ℕ) → All (Passes is_plain_byte) text → split_scheme text ≡ None
@@ -239,8 +241,8 @@ pub parsed_below : (base : Parts) (text : List ℕ) → IsValid base → kind_of
 unfolding parse_url
 parsed_below base text valid kind plain =
     let both = and_parts _ _ plain in
-    let some : 0 < length text = let is : ltb 0 (length text) ≡ true = both.0 in
-    grind (arith, nat_tests) in
+    let is : ltb 0 (length text) ≡ true = both.0 in
+    let some : 0 < length text = grind (arith, nat_tests) in
     let first = no_slash_first text some both.1 in
     let all = all_plain 47 text both.1 in
     let above = All-weaker (Passes is_plain_byte) IsAbove
@@ -283,15 +285,12 @@ pub valid_below : (base : Parts) (text : List ℕ) → IsValid base → kind_of 
 valid_below base text valid kind plain =
     let authority = special_has_authority base valid.head (ap is_special kind) in
     let list = hierarchical base valid.path (base_from_authority base authority) in
+    let of_kind : SchemeType → Type 0 =
+    λ k. IsSegmentList k (without_last_segment base.path ++ 47 ∷ text) in
+    let path = valid_path base text (subst (λ k. IsSegmentList k base.path) kind list.0) plain in
     record {
       head = IsValidHead_same base (placed base text) refl valid.head;
-      path = inl (
-        subst (λ k. IsSegmentList k (without_last_segment base.path ++ 47 ∷ text))
-            (sym kind) (valid_path base text
-            (subst (λ k. IsSegmentList k base.path) kind list.0) plain),
-        λ _. simp length-append
-            (omega arith),
-      );
+      path = inl (subst of_kind (sym kind) path, λ _. simp length-append (omega arith));
       query = tt;
       fragment = tt;
     }

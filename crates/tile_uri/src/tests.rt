@@ -126,8 +126,8 @@ fn texts_that_are_no_addresses_below_a_base(rt: HostRuntime) -> Result<(), Fail>
     Ok(())
 }
 
-/// How long texts begin that are written below the base, their lengths, and why they are refused. The
-/// text up to the last slash of the base has 15 bytes.
+/// How long texts begin that are written below the base, their lengths, and why they are refused.
+/// The text up to the last slash of the base has 15 bytes.
 static LONG_JOINS: [(&str, usize, Option<UriError>); 8] = [
     ("", 4081, None),
     ("", 4082, Some(UriError::TooLong)),
@@ -167,7 +167,7 @@ fn long_bases(rt: HostRuntime) -> Result<(), Fail> {
     Ok(())
 }
 
-/// How long texts of a quadtree's templates begin, their lengths, and why they are refused.
+/// How long templates of a quadtree begin, their lengths, and why they are refused.
 static LONG_TEMPLATES: [(&str, usize, Option<UriError>); 3] = [
     ("{x}", 4096, None),
     ("{x}", 4097, Some(UriError::TooLong)),
