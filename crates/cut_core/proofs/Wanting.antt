@@ -11,13 +11,14 @@ use Rattle.tile_types.specs.declared.want.Want.{Want}
 use Rattle.tile_types.specs.Wants.{Ranks}
 use Rattle.error_test.specs.Views.{ViewParts}
 use Rattle.expanded_tree.specs.Tree.{Tree, tile, pending, addresses_of, key_of}
+use Rattle.tile_types.specs.Keys.{same_key}
+use Rattle.tile_types.proofs.Keys.{key_turned}
 use Rattle.cut_core.specs.declared.findings.TheConstants.{VISITED_LIMIT}
 use Rattle.cut_core.specs.Cut.{Holdings, is_empty}
 use Rattle.cut_core.specs.Distances.{Measured}
 use Rattle.cut_core.specs.Visits.{IsWithinLimit, content_key, unless_too_many, visits}
-use Rattle.cut_core.specs.Wants.{each_once, is_missing, joined, keys_wanted, key_list, missing_contents, same_key, ranks_of, want_with, wants_of, with_want}
+use Rattle.cut_core.specs.Wants.{each_once, is_missing, joined, keys_wanted, key_list, missing_contents, ranks_of, want_with, wants_of, with_want}
 use Rattle.cut_core.specs.WantMap.{want_at}
-use Rattle.cut_core.proofs.Keys.{key_turned}
 use Rattle.cut_core.proofs.Lists.{append-nil, filter_taken}
 
 -- ---- the limit

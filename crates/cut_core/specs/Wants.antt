@@ -1,35 +1,15 @@
 -- What a view wants loaded.
-use Rattle.std.specs.Prelude.{ℕ, Bool, true, false, ◌&&◌, ◌==◌, not, nat_eq, min, max, Option, Some, None, List, [], ◌∷◌, ◌++◌, if◌then◌else◌, filter, fold, map}
-use Rattle.std.specs.Bool.{beq}
-use Rattle.std.specs.Cmp.Lexicographic.{pointwise}
+use Rattle.std.specs.Prelude.{ℕ, Bool, ◌&&◌, not, min, max, Option, Some, None, List, [], ◌∷◌, ◌++◌, if◌then◌else◌, filter, fold, map}
 use Rattle.std.specs.List.{flat_map}
 use Rattle.tile_types.specs.declared.key.Key.{Key}
-use Rattle.tile_types.specs.declared.key.Kind.{Kind}
-use Rattle.tile_types.specs.declared.key.Kind.TheVariants.{Content, Tileset, Subtree}
 use Rattle.tile_types.specs.declared.want.Want.{Want}
+use Rattle.tile_types.specs.Keys.{same_key}
 use Rattle.tile_types.specs.Wants.{Ranks}
 use Rattle.error_test.specs.Views.{ViewParts}
 use Rattle.expanded_tree.specs.Tree.{Tree, addresses_of, facts_of, key_of}
 use Rattle.cut_core.specs.Cut.{Holdings}
 use Rattle.cut_core.specs.Distances.{Measured, measured_visits}
 use Rattle.cut_core.specs.Visits.{content_key, keeps_own, unless_too_many}
-
--- ---- the same key
-
-abbrev pub same_kind : Kind → Kind → Bool
-same_kind Content Content = true
-same_kind Tileset Tileset = true
-same_kind (Subtree octree levels contents) (Subtree octree' levels' contents') =
-    beq octree octree' && (levels == levels' && contents == contents')
-same_kind Content (Subtree octree levels contents) = false
-same_kind Content Tileset = false
-same_kind Tileset Content = false
-same_kind Tileset (Subtree octree levels contents) = false
-same_kind (Subtree octree levels contents) Content = false
-same_kind (Subtree octree levels contents) Tileset = false
-
-abbrev pub same_key : Key → Key → Bool
-same_key a b = same_kind a.kind b.kind && pointwise nat_eq a.address b.address
 
 -- ---- what a node wants
 

@@ -3,8 +3,9 @@
 ghost use Rattle.std.specs.Prelude.{◌≡◌, [], IfOk, OnOk};
 ghost use Rattle.std.specs.Option.{option_map_or};
 ghost use Rattle.indexmap.specs.IndexMap.{get};
+ghost use Rattle.tile_types.specs.Keys.{same_key};
 ghost use Rattle.cut_core.specs.WantMap.{wants_in};
-ghost use Rattle.cut_core.specs.Wants.{joined, same_key, want_with, with_want};
+ghost use Rattle.cut_core.specs.Wants.{joined, want_with, with_want};
 
 use indexmap::IndexMap;
 use std::alloc::{AllocError, Global};

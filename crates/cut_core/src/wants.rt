@@ -3,12 +3,13 @@
 ghost use Rattle.std.specs.Prelude.{◌≡◌, ◌≤◌, [], All, IfOk, IsTrue, OnOk, fold, map, true};
 ghost use Rattle.std.specs.List.{IsDistinct, flat_map};
 ghost use Rattle.fixed_geometry.specs.declared.limits.TheConstants.{DISTANCE_LIMIT};
+ghost use Rattle.tile_types.specs.Keys.{same_key};
 ghost use Rattle.cut_core.specs.Distances.{measured_visits, trees_in};
 ghost use Rattle.cut_core.specs.Noted.{IsNoteValid, measured_at, wants_noted};
 ghost use Rattle.cut_core.specs.Visits.{content_key, visits};
 ghost use Rattle.cut_core.specs.Walk.{IsAnyValid, distance_by};
 ghost use Rattle.cut_core.specs.WantMap.{wants_in};
-ghost use Rattle.cut_core.specs.Wants.{is_missing, missing_contents, ranks_of, same_key, want_with, wanted};
+ghost use Rattle.cut_core.specs.Wants.{is_missing, missing_contents, ranks_of, want_with, wanted};
 ghost use Rattle.cut_core.specs.Wants.{with_want};
 ghost use Rattle.cut_core.specs.WholeWalk.{WalksWhole};
 

@@ -1,13 +1,20 @@
 -- Which keys are the same.
-use Rattle.std.proofs.Common.{ℕ, ◌≡◌, ◌==◌, Bool, true, false, ◌&&◌, List, refl, sym, ◌∙◌, ap, eqb-true, eq-eqb, nat_eq}
+use Rattle.std.proofs.Common.{ℕ, ◌≡◌, ◌==◌, Bool, true, false, ◌&&◌, List, refl, sym, ◌∙◌, ap, eqb-true, eq-eqb}
 use Rattle.std.specs.Bool.{beq}
 use Rattle.std.specs.Cmp.Lexicographic.{pointwise, nat_list_eq_equiv, same_text as texts_agree}
 use Rattle.tile_types.specs.declared.key.Key.{Key}
 use Rattle.tile_types.specs.declared.key.Kind.{Kind}
 use Rattle.tile_types.specs.declared.key.Kind.TheVariants.{Content, Tileset, Subtree}
 use Rattle.tile_types.specs.contracts.key.KeyPartialEq.TheImpl.{eq-value}
-use Rattle.cut_core.specs.Wants.{same_kind, same_key}
-use Rattle.cut_core.proofs.Bools.{and_left, and_right}
+use Rattle.tile_types.specs.Keys.{same_kind, same_key}
+
+and_left : (a b : Bool) → (a && b) ≡ true → a ≡ true
+and_left true b e = refl
+and_left false b e = cc
+
+and_right : (a b : Bool) → (a && b) ≡ true → b ≡ true
+and_right true b e = e
+and_right false b e = cc
 
 abbrev key_with : Kind → List ℕ → Key
 key_with kind address = record { kind = kind; address = address }

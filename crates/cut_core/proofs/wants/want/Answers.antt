@@ -3,9 +3,10 @@ use Rattle.std.specs.Prelude.{All}
 use Rattle.std.specs.List.{IsDistinct, flat_map}
 use Rattle.std.proofs.lemmas.Result.{err_from_is_err_and}
 use Rattle.tile_types.specs.declared.want.Want.{Want}
+use Rattle.tile_types.specs.Keys.{same_key}
 use Rattle.cut_core.specs.declared.findings.Visit.{Visit}
 use Rattle.cut_core.specs.Noted.{IsNoteValid, wants_noted}
-use Rattle.cut_core.specs.Wants.{same_key, with_want}
+use Rattle.cut_core.specs.Wants.{with_want}
 use Rattle.cut_core.proofs.Distances.{trees_visited}
 use Rattle.cut_core.proofs.Notes.{AreNotesOf-valid, AreNotesOf-wants}
 use Rattle.cut_core.proofs.Wanting.{key_at, once_distinct, unless_within}

@@ -1,8 +1,8 @@
 use Rattle.std.proofs.Common.{◌∙◌, ap, map}
 use Rattle.indexmap.specs.IndexMap.{insert_entry}
 use Rattle.tile_types.specs.contracts.key.KeyPartialEq.TheImpl.{eq-value}
+use Rattle.tile_types.proofs.Keys.{key_eq}
 use Rattle.cut_core.specs.WantMap.{want_at}
-use Rattle.cut_core.proofs.Keys.{key_eq}
 use Rattle.cut_core.proofs.Wanting.{put_joins}
 use Rattle.cut_core.proofs.want_map.WantMap.put.Goals as goal
 
