@@ -1,24 +1,20 @@
 -- Entries that are added one after the other.
-use Rattle.std.proofs.Common.{◌≡◌, ℕ, suc, ◌+◌, ◌-◌, min, ◌<◌, ◌≤◌, List, [], ◌∷◌, ◌++◌, length, drop, set, Option, Some, None, Result, Ok, Err, Bor, refl, sym, subst, ap, ◌∙◌, arith, append_assoc, zero-add, length-append}
+use Rattle.std.proofs.Common.{◌≡◌, ℕ, suc, ◌+◌, ◌-◌, min, ◌<◌, ◌≤◌, List, [], ◌∷◌, ◌++◌, length, drop, set, Option, Some, None, refl, sym, subst, ap, ◌∙◌, arith, append_assoc, zero-add, length-append}
 use Rattle.std.proofs.lemmas.List.{append-nil}
 use Rattle.std.proofs.Math.Seq.{drop-append_seam, set-append_seam}
-use Rattle.json_decimal.specs.Ascii.{left_square_bracket, right_square_bracket, left_curly_bracket, right_curly_bracket, byte_order_mark}
-use Rattle.json_decimal.specs.JsonValue.{JsonValue, list, object, no_values, no_pairs, values, pairs, list_of-values, pairs_of-pairs}
-use Rattle.json_decimal.specs.Scan.{Fails, Reader, skip, after, after_byte}
-use Rattle.json_decimal.specs.Reading.{Behind, separator, closing, neither, behind_item, items, enclosed, name_at, pair_at, nested_at, value_at, whole, or_else, unmarked, value_in}
+use Rattle.json_decimal.specs.Ascii.{byte_order_mark}
+use Rattle.json_decimal.specs.JsonValue.{JsonValue}
+use Rattle.json_decimal.specs.Scan.{Reader, skip, after}
+use Rattle.json_decimal.specs.Reading.{Behind, separator, behind_item, name_at, pair_at, value_at, whole, or_else, unmarked, value_in}
 use Rattle.json_decimal.specs.Grammar.{max_nesting}
-use Rattle.json_decimal.specs.Entries.{paired, form_from, value_from, inside_of, inside, values_on, value_on, is_extent, is_entry, AreTextEntries}
-use Rattle.json_decimal.specs.ReadsInto.{EndsIn, IsLeaf, Stands, AddsEntries, IsReadInto, ReadsInto, entry, one, name_alone, member_alone}
+use Rattle.json_decimal.specs.Entries.{form_from, value_from, inside_of, inside, values_on, value_on, is_extent, is_entry, AreTextEntries}
+use Rattle.json_decimal.specs.ReadsInto.{EndsIn, IsLeaf, Stands, AddsEntries, IsReadInto, entry, one}
 use Rattle.json_decimal.specs.declared.entry.Entry.{Entry}
-use Rattle.json_decimal.specs.declared.error.JsonError.{JsonError}
 use Rattle.std.specs.Prelude.{IsTrue, nat_lt}
 use Rattle.json_decimal.proofs.Told.{both_true, lt_true, entries-cons, entries-append}
-use Rattle.json_decimal.proofs.Steps.{Shrinks, bind_some, after_is}
+use Rattle.json_decimal.proofs.Steps.{bind_some, after_is}
 use Rattle.json_decimal.proofs.Rules.{Begins}
 use Rattle.json_decimal.proofs.Sound.{Reads, IsBehind, behind_is, skip_begins, NameRead, name_sound, value_sound}
-use Rattle.json_decimal.proofs.Shrinks.{value_at_shrinks, pair_at_shrinks}
-use Rattle.json_decimal.proofs.Items.{with_front, goes_on, closes, stops, falls, ends, empty, begins}
-use Rattle.json_decimal.proofs.Lists.{list_some, object_some, pair_some, pair_fails_value}
 
 values_on-none : (bytes : List ℕ) (es : List Entry) → values_on bytes es 0 0 ≡ []
 values_on-none bytes [] = refl
@@ -146,79 +142,11 @@ pair_leaves d bytes bs x h e =
     let same : v.1 ≡ z.1 = cc in
     subst (EndsIn bytes) same (value_leaves d bytes n.1 v (name_leaves bytes bs n h f) g)) z k) x e
 
-ends_more : (bytes bs more : List ℕ) (close : ℕ) (next : Behind) → next ≡ behind_item close bs → EndsIn bytes bs → separator more ≡ next → EndsIn bytes more
+pub ends_more : (bytes bs more : List ℕ) (close : ℕ) (next : Behind) → next ≡ behind_item close bs → EndsIn bytes bs → separator more ≡ next → EndsIn bytes more
 ends_more bytes bs more close next e h k =
     let P : Behind → Type 0 = IsBehind close bs in
     let b : IsBehind close bs (separator more) = subst P (sym (k ∙ e)) (behind_is close bs) in
     ends_behind bytes bs (44 ∷ b.0) more h b.2
-
-abbrev pub all_of : {A : Type 0} → (A → List JsonValue) → List A → List JsonValue
-all_of f [] = []
-all_of f (x ∷ xs) = f x ++ all_of f xs
-
-all_of-push : {A : Type 0} (f : A → List JsonValue) (xs : List A) (x : A) → all_of f (xs ++ x ∷ []) ≡ all_of f xs ++ f x
-all_of-push f [] x = append-nil (f x)
-all_of-push f (y ∷ ys) x = ap (λ (us : List JsonValue). f y ++ us) (all_of-push f ys x) ∙ sym (append_assoc (f y) (all_of f ys) (f x))
-
-pub all_ones : (vs : List JsonValue) → all_of one vs ≡ vs
-all_ones [] = refl
-all_ones (v ∷ vs) = ap (λ (us : List JsonValue). v ∷ us) (all_ones vs)
-
-pub paired-members : (ps : List (List ℕ × JsonValue)) → paired (all_of member_alone ps) ≡ ps
-paired-members [] = refl
-paired-members (p ∷ ps) = ap (λ (qs : List (List ℕ × JsonValue)). p ∷ qs) (paired-members ps)
-
--- the items read so far, whose entries are there behind that of what they are in, and what is still read
-pub record HasRead {A : Type 0} (values_of : A → List JsonValue) (close : ℕ) (p : Reader A) (bytes spelled within : List ℕ) (old now : List Entry) (rest : List ℕ) : Type 0 where
-  pub read : List A
-  pub adds : AddsEntries bytes (old ++ entry bytes spelled 0 ∷ []) now (all_of values_of read)
-  pub so_far : with_front read (items close p rest) ≡ enclosed close p (skip within)
-  pub ends : EndsIn bytes rest
-
--- all items, whose entries are there
-pub record AllRead {A : Type 0} (values_of : A → List JsonValue) (close : ℕ) (p : Reader A) (bytes spelled within : List ℕ) (old now : List Entry) (rest : List ℕ) : Type 0 where
-  pub read : List A
-  pub adds : AddsEntries bytes (old ++ entry bytes spelled 0 ∷ []) now (all_of values_of read)
-  pub all : enclosed close p (skip within) ≡ Some (read, rest)
-
-module _ {A : Type 0} (f : A → List JsonValue) (close : ℕ) (p : Reader A) (s : Shrinks p) (leaves : Leaves p) (bytes spelled within : List ℕ) (old : List Entry) where
-  pub begun : (now : List Entry) → EndsIn bytes (skip within) → after_byte close (skip within) ≡ None → now ≡ old ++ entry bytes spelled 0 ∷ [] → HasRead f close p bytes spelled within old now (skip within)
-  begun now h e k = record { read = []; adds = adds_nothing bytes _ now k; so_far = begins close p s (skip within) e; ends = h }
-
-  added_one : (now next : List Entry) (xs : List A) (x : A) → AddsEntries bytes (old ++ entry bytes spelled 0 ∷ []) now (all_of f xs) → AddsEntries bytes now next (f x) → AddsEntries bytes (old ++ entry bytes spelled 0 ∷ []) next (all_of f (xs ++ x ∷ []))
-  added_one now next xs x h k = subst (AddsEntries bytes (old ++ entry bytes spelled 0 ∷ []) next) (sym (all_of-push f xs x)) (adds_then bytes _ now next (all_of f xs) (f x) h k)
-
-  pub going : (now next : List Entry) (rest after more : List ℕ) → HasRead f close p bytes spelled within old now rest → IsReadInto f bytes now next after (p rest) → separator more ≡ behind_item close after → HasRead f close p bytes spelled within old next more
-  going now next rest after more h t k = record {
-    read = h.read ++ t.what ∷ [];
-    adds = added_one now next h.read t.what h.adds t.adds;
-    so_far = goes_on close p s h.read rest after more t.what (enclosed close p (skip within)) t.is_read k h.so_far;
-    ends = ends_more bytes after more close (behind_item close after) refl (leaves bytes rest (t.what, after) h.ends t.is_read) k;
-  }
-
-  pub smaller : (now next : List Entry) (rest after more : List ℕ) → IsReadInto f bytes now next after (p rest) → separator more ≡ behind_item close after → length more < length rest
-  smaller now next rest after more t k = falls close p s rest after more t.what t.is_read k
-
-  pub done : (now next : List Entry) (rest after more : List ℕ) → HasRead f close p bytes spelled within old now rest → IsReadInto f bytes now next after (p rest) → closing more ≡ behind_item close after → AllRead f close p bytes spelled within old next more
-  done now next rest after more h t k = record {
-    read = h.read ++ t.what ∷ [];
-    adds = added_one now next h.read t.what h.adds t.adds;
-    all = closes close p s h.read rest after more t.what (enclosed close p (skip within)) t.is_read k h.so_far;
-  }
-
-  pub stopped : (now next : List Entry) (rest after : List ℕ) → HasRead f close p bytes spelled within old now rest → IsReadInto f bytes now next after (p rest) → neither ≡ behind_item close after → enclosed close p (skip within) ≡ None
-  stopped now next rest after h t k = stops close p s h.read rest after t.what (enclosed close p (skip within)) t.is_read k h.so_far
-
-  pub failed : (e : JsonError) (now : List Entry) (rest : List ℕ) → HasRead f close p bytes spelled within old now rest → Fails e (p rest) → Fails e (enclosed close p (skip within))
-  failed e now rest h k = ends close p s e h.read rest (enclosed close p (skip within)) k h.so_far
-
--- a member, from its name and its value
-pub member_is_read : (d : ℕ) (bytes bs at_value rest : List ℕ) (a b c : List Entry) → IsReadInto name_alone bytes a b at_value (name_at bs) → IsReadInto one bytes b c rest (value_at d at_value) → IsReadInto member_alone bytes a c rest (pair_at (value_at d) bs)
-member_is_read d bytes bs at_value rest a b c n v = record {
-  what = (n.what, v.what);
-  is_read = pair_some (value_at d) bs n.what at_value rest v.what n.is_read v.is_read;
-  adds = adds_then bytes a b c (name_alone n.what) (one v.what) n.adds v.adds;
-}
 
 -- the value that all entries stand for
 pub whole_is : (bytes : List ℕ) (new : List Entry) (v : JsonValue) → AddsEntries bytes [] new (v ∷ []) → value_on bytes new ≡ v
@@ -232,48 +160,6 @@ whole_is bytes new v h = first_is new v (λ more n. subst (λ (l : List Entry). 
         let j : value_from (drop e.start bytes) (values_on bytes (es ++ []) 0 (min (inside bytes e) (length es))) ≡ v = cc in
         ap (λ (l : List Entry). value_from (drop e.start bytes) (values_on bytes l 0 (min (inside bytes e) (length es)))) (sym (append-nil es)) ∙ j
 
--- a list that may nest, from its items
-module _ (d : ℕ) (bytes spelled within : List ℕ) (old : List Entry) (less : 0 < d) (ends_in : EndsIn bytes spelled) where
-  pub list_is_read : (now new : List Entry) (place : ℕ) (rest : List ℕ) → spelled ≡ left_square_bracket ∷ within → place ≡ length old → AllRead one right_square_bracket (value_at (d - 1)) bytes spelled within old now rest → new ≡ set now place (entry bytes spelled (length now - place - 1)) → IsReadInto one bytes old new rest ((nested_at d).0 within)
-  list_is_read now new place rest opens p a e =
-      let is : value_from spelled (all_of one a.read) ≡ list (values a.read) = ap (λ (s : List ℕ). value_from s (all_of one a.read)) opens ∙ ap (λ (vs : List JsonValue). list (values vs)) (all_ones a.read) in
-      record {
-        what = list (values a.read);
-        is_read = list_some d within less (values a.read) rest (a.all ∙ ap (λ (vs : List JsonValue). Some (vs, rest)) (sym (list_of-values a.read)));
-        adds = subst (λ v. AddsEntries bytes old new (v ∷ [])) is (adds_closed bytes spelled place old now new (all_of one a.read) ends_in (omega (arith, ap length opens)) (λ n. ap (λ (s : List ℕ). inside_of s n) opens) (λ n. subst (λ (s : List ℕ). IsTrue (is_extent (form_from s) s n)) (sym opens) refl) p a.adds e);
-      }
-
-  pub empty_list_is_read : (new : List Entry) (rest skipped : List ℕ) → spelled ≡ left_square_bracket ∷ within → after_byte right_square_bracket (skip within) ≡ Some rest → skipped ≡ skip rest → new ≡ old ++ entry bytes spelled 0 ∷ [] → IsReadInto one bytes old new skipped ((nested_at d).0 within)
-  empty_list_is_read new rest skipped opens k s e =
-      let is : value_from spelled [] ≡ list no_values = ap (λ (s : List ℕ). value_from s []) opens in
-      record {
-        what = list no_values;
-        is_read = list_some d within less no_values skipped (empty right_square_bracket (value_at (d - 1)) (value_at_shrinks (d - 1)) (skip within) rest k ∙ ap (λ (t : List ℕ). Some ([], t)) (sym s));
-        adds = subst (λ v. AddsEntries bytes old new (v ∷ [])) is (adds_leaf bytes spelled 0 old new ends_in (omega (arith, ap length opens)) (record { nothing = ap (λ (s : List ℕ). inside_of s 0) opens; told = subst (λ (s : List ℕ). IsTrue (is_extent (form_from s) s 0)) (sym opens) refl }) e);
-      }
-
-  pub object_is_read : (now new : List Entry) (place : ℕ) (rest : List ℕ) → spelled ≡ left_curly_bracket ∷ within → place ≡ length old → AllRead member_alone right_curly_bracket (pair_at (value_at (d - 1))) bytes spelled within old now rest → new ≡ set now place (entry bytes spelled (length now - place - 1)) → IsReadInto one bytes old new rest ((nested_at d).1 within)
-  object_is_read now new place rest opens p a e =
-      let is : value_from spelled (all_of member_alone a.read) ≡ object (pairs a.read) = ap (λ (s : List ℕ). value_from s (all_of member_alone a.read)) opens ∙ ap (λ (ps : List (List ℕ × JsonValue)). object (pairs ps)) (paired-members a.read) in
-      record {
-        what = object (pairs a.read);
-        is_read = object_some d within less (pairs a.read) rest (a.all ∙ ap (λ (ps : List (List ℕ × JsonValue)). Some (ps, rest)) (sym (pairs_of-pairs a.read)));
-        adds = subst (λ v. AddsEntries bytes old new (v ∷ [])) is (adds_closed bytes spelled place old now new (all_of member_alone a.read) ends_in (omega (arith, ap length opens)) (λ n. ap (λ (s : List ℕ). inside_of s n) opens) (λ n. subst (λ (s : List ℕ). IsTrue (is_extent (form_from s) s n)) (sym opens) refl) p a.adds e);
-      }
-
-  pub empty_object_is_read : (new : List Entry) (rest skipped : List ℕ) → spelled ≡ left_curly_bracket ∷ within → after_byte right_curly_bracket (skip within) ≡ Some rest → skipped ≡ skip rest → new ≡ old ++ entry bytes spelled 0 ∷ [] → IsReadInto one bytes old new skipped ((nested_at d).1 within)
-  empty_object_is_read new rest skipped opens k s e =
-      let is : value_from spelled [] ≡ object no_pairs = ap (λ (s : List ℕ). value_from s []) opens in
-      record {
-        what = object no_pairs;
-        is_read = object_some d within less no_pairs skipped (empty right_curly_bracket (pair_at (value_at (d - 1))) (pair_at_shrinks (value_at (d - 1)) (value_at_shrinks (d - 1))) (skip within) rest k ∙ ap (λ (t : List ℕ). Some ([], t)) (sym s));
-        adds = subst (λ v. AddsEntries bytes old new (v ∷ [])) is (adds_leaf bytes spelled 0 old new ends_in (omega (arith, ap length opens)) (record { nothing = ap (λ (s : List ℕ). inside_of s 0) opens; told = subst (λ (s : List ℕ). IsTrue (is_extent (form_from s) s 0)) (sym opens) refl }) e);
-      }
-
-pub member_reads_into : (d : ℕ) (bytes bs at_value : List ℕ) (a b c : List Entry) (r : Result (Bor (List ℕ)) JsonError) → IsReadInto name_alone bytes a b at_value (name_at bs) → ReadsInto one bytes b c r (value_at d at_value) → ReadsInto member_alone bytes a c r (pair_at (value_at d) bs)
-member_reads_into d bytes bs at_value a b c (Ok rest) n v = member_is_read d bytes bs at_value rest.now a b c n v
-member_reads_into d bytes bs at_value a b c (Err e) n f = pair_fails_value e (value_at d) bs n.what at_value n.is_read f
-
 -- the whole text
 unmarked_by : (bytes : List ℕ) (r : Option (List ℕ)) → after byte_order_mark bytes ≡ r → EndsIn bytes (or_else bytes r)
 unmarked_by bytes None h = record { front = []; spelled = refl }
@@ -286,12 +172,12 @@ no_bytes : (bs : List ℕ) → length bs ≡ 0 → bs ≡ []
 no_bytes [] h = refl
 no_bytes (b ∷ bs) h = absurd (omega (arith, h))
 
-pub text_is_read : (bytes spelled rest : List ℕ) (old new : List Entry) → spelled ≡ skip (unmarked bytes) → length rest ≡ 0 → old ≡ [] → IsReadInto one bytes old new rest (value_at max_nesting spelled) → value_in bytes ≡ Some (value_on bytes new)
+pub text_is_read : (bytes spelled rest : List ℕ) (old new : List Entry) → spelled ≡ skip (unmarked bytes) → length (skip rest) ≡ 0 → old ≡ [] → IsReadInto one bytes old new rest (value_at max_nesting spelled) → value_in bytes ≡ Some (value_on bytes new)
 unfolding value_in
 text_is_read bytes spelled rest old new e none first t =
     let adds : AddsEntries bytes [] new (t.what ∷ []) = subst (λ (l : List Entry). AddsEntries bytes l new (t.what ∷ [])) first t.adds in
     ap (λ (s : List ℕ). whole (value_at max_nesting s)) (sym e)
-    ∙ ap whole (t.is_read ∙ ap (λ (s : List ℕ). Some (t.what, s)) (no_bytes rest none))
+    ∙ ap whole (t.is_read ∙ ap (λ (s : List ℕ). Some (t.what, s)) (no_bytes (skip rest) none))
     ∙ ap Some (sym (whole_is bytes new t.what adds))
 
 added_some : (bytes : List ℕ) (es : List Entry) (v : JsonValue) → Stands bytes es (v ∷ []) → 0 < length es

@@ -1,5 +1,5 @@
 -- What stands behind an item, as a step returns it.
-use Rattle.std.proofs.Common.{◌≡◌, Option, Some, None, sym, ap, ◌∙◌}
+use Rattle.std.proofs.Common.{◌≡◌, Some, None, sym, ap, ◌∙◌}
 use Rattle.json_decimal.specs.Reading.{Behind, separator, closing, neither, either_behind}
 use Rattle.json_decimal.specs.Seen.{behind_view}
 use Rattle.json_decimal.specs.declared.scan.Behind as declared

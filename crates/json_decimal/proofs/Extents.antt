@@ -1,10 +1,10 @@
 -- The extents of numbers and of strings that stand for themselves.
-use Rattle.std.proofs.Common.{◌≡◌, ℕ, ◌-◌, ◌≤◌, List, [], length, take, drop, Bool, true, false, ◌&&◌, ◌||◌, Option, Some, None, refl, sym, subst, ap, ◌∙◌, arith, rules}
+use Rattle.std.proofs.Common.{◌≡◌, ℕ, ◌-◌, ◌≤◌, List, [], length, take, drop, Bool, true, false, ◌&&◌, ◌||◌, Option, Some, None, refl, sym, subst, arith, rules}
 use Rattle.std.specs.Prelude.{IsTrue, nat_le, ◌==◌}
 use Rattle.std.specs.Str.{IsUtf8, bytes_eq}
 use Rattle.std.proofs.lemmas.Slice.Eq.{bytes_eq-Decides}
 use Rattle.std.proofs.lemmas.Bool.Decides.{nat_tests}
-use Rattle.json_decimal.specs.Numbers.{after_number, number_at}
+use Rattle.json_decimal.specs.Numbers.{after_number}
 use Rattle.json_decimal.specs.Scan.{◌>>=◌}
 use Rattle.json_decimal.specs.Strings.{string_at}
 use Rattle.json_decimal.specs.Entries.{read_or_none, text_from, number_from, is_extent}

@@ -6,7 +6,8 @@ use Rattle.json_decimal.specs.Ascii.{quotation_mark, colon}
 use Rattle.json_decimal.specs.JsonValue.{JsonValue, number, words}
 use Rattle.json_decimal.specs.Scan.{◌>>=◌, Fails, skip, after, after_byte}
 use Rattle.json_decimal.specs.Numbers.{after_number, number_at}
-use Rattle.json_decimal.specs.Strings.{with_text, string_at, behind_string, IsPlain, plain_len, run_end, RunEnd, quote, escape, neither, escape_at}
+use Rattle.std.proofs.lemmas.List.{take_rest}
+use Rattle.json_decimal.specs.Strings.{with_text, string_at, behind_string, IsPlain, plain_len, run_end, RunEnd, quote, escape, neither, escape_at, IsPlainAscii}
 use Rattle.json_decimal.specs.Reading.{literal, leaf, quoted_at, name_at}
 use Rattle.std.specs.Prelude.{IsTrue}
 use Rattle.json_decimal.specs.Entries.{form_from, value_as, value_from, number_from, inside_as, inside_of, read_or_none, is_extent}
@@ -22,11 +23,11 @@ use Rattle.json_decimal.proofs.Runs.{string_at_shrinks, broken, closes, stops, n
 use Rattle.json_decimal.proofs.SoundString.{IsEnd, end_is}
 use Rattle.json_decimal.proofs.Added.{adds_leaf}
 
-pub literal_is : (word spelled rest skipped : List ℕ) (v : JsonValue) → Some rest ≡ after word spelled → skipped ≡ skip rest → literal word v spelled ≡ Some (v, skipped)
-literal_is word spelled rest skipped v e k = ap (λ (r : Option (List ℕ)). r >>= λ rest. Some (v, skip rest)) (sym e) ∙ ap (λ (s : List ℕ). Some (v, s)) (sym k)
+pub literal_is : (word spelled rest : List ℕ) (v : JsonValue) → Some rest ≡ after word spelled → literal word v spelled ≡ Some (v, skip rest)
+literal_is word spelled rest v e = ap (λ (r : Option (List ℕ)). r >>= λ rest. Some (v, skip rest)) (sym e)
 
-pub leaf_is : (f : List ℕ → JsonValue) (read : Option (List ℕ × List ℕ)) (text rest skipped : List ℕ) → read ≡ Some (text, rest) → skipped ≡ skip rest → leaf f read ≡ Some (f text, skipped)
-leaf_is f read text rest skipped e k = ap (leaf f) e ∙ ap (λ (s : List ℕ). Some (f text, s)) (sym k)
+pub leaf_is : (f : List ℕ → JsonValue) (read : Option (List ℕ × List ℕ)) (text rest : List ℕ) → read ≡ Some (text, rest) → leaf f read ≡ Some (f text, skip rest)
+leaf_is f read text rest e = ap (leaf f) e
 
 number_is : (bs rest : List ℕ) → Some rest ≡ after_number bs → number_at bs ≡ Some (take (length bs - length rest) bs, rest)
 number_is bs rest e = ap (λ (r : Option (List ℕ)). r >>= λ rest. Some (take (length bs - length rest) bs, rest)) (sym e)
@@ -34,8 +35,10 @@ number_is bs rest e = ap (λ (r : Option (List ℕ)). r >>= λ rest. Some (take 
 number_some : (bs rest : List ℕ) → number_at bs ≡ Some (take (length bs - length rest) bs, rest) → 0 < length bs
 number_some bs rest h = omega (arith, number_at_shrinks bs (take (length bs - length rest) bs, rest) h)
 
-pub number_is_read : (bytes bs rest skipped : List ℕ) (extent : ℕ) (old new : List Entry) → EndsIn bytes bs → form_from bs ≡ forms.Number → Some rest ≡ after_number bs → skipped ≡ skip rest → extent ≡ length bs - length rest → new ≡ old ++ entry bytes bs extent ∷ [] → IsReadInto one bytes old new skipped (leaf number (number_at bs))
-number_is_read bytes bs rest skipped extent old new h form e k long all =
+pub number_is_read : (bytes bs rest : List ℕ) (extent : ℕ) (old new : List Entry) → EndsIn bytes bs → form_from bs ≡ forms.Number
+    → Some rest ≡ after_number bs → extent ≡ length bs - length rest → new ≡ old ++ entry bytes bs extent ∷ []
+    → IsReadInto one bytes old new rest (leaf number (number_at bs))
+number_is_read bytes bs rest extent old new h form e long all =
     let read : number_at bs ≡ Some (take (length bs - length rest) bs, rest) = number_is bs rest e in
     let from : number_from bs ≡ take (length bs - length rest) bs = ap read_or_none read in
     let is : value_from bs [] ≡ number (take (length bs - length rest) bs) = ap (λ f. value_as f bs []) form ∙ ap number from in
@@ -46,7 +49,7 @@ number_is_read bytes bs rest skipped extent old new h form e k long all =
     } in
     record {
       what = number (take (length bs - length rest) bs);
-      is_read = leaf_is number (number_at bs) (take (length bs - length rest) bs) rest skipped read k;
+      is_read = leaf_is number (number_at bs) (take (length bs - length rest) bs) rest read;
       adds = subst (λ v. AddsEntries bytes old new (v ∷ [])) is (adds_leaf bytes bs extent old new h (number_some bs rest read) is_leaf all);
     }
 
@@ -87,8 +90,19 @@ words_extent within rest extent true p t f =
     let count : length within - (length rest + 1) ≡ extent - 2 = omega arith in
     plain_extent (quotation_mark ∷ within) extent (omega arith) (omega arith) (ap read_or_none read ∙ ap (λ (n : ℕ). take n within) count)
 
-pub quoted_is_read : (bytes bs within rest skipped : List ℕ) (extent : ℕ) (plain : Bool) (old new : List Entry) → EndsIn bytes bs → Some within ≡ after_byte quotation_mark bs → Some rest ≡ behind_string within → (plain ≡ true → IsPlain within rest) → (plain ≡ true → extent ≡ length bs - length rest) → (plain ≡ false → extent ≡ 0) → skipped ≡ skip rest → new ≡ old ++ entry bytes bs extent ∷ [] → IsReadInto one bytes old new skipped (leaf words (quoted_at bs))
-quoted_is_read bytes bs within rest skipped extent plain old new h e b p t f k all =
+-- the same of a number that ends within a block
+pub short_number_is_read : (bytes bs rest : List ℕ) (len : ℕ) (old new : List Entry) → EndsIn bytes bs → form_from bs ≡ forms.Number
+    → after_number bs ≡ Some (drop len bs) → len ≤ length bs → rest ≡ take (length bs - len) (drop len bs)
+    → new ≡ old ++ entry bytes bs len ∷ [] → IsReadInto one bytes old new rest (leaf number (number_at bs))
+short_number_is_read bytes bs rest len old new h form read within is all =
+    let behind : rest ≡ drop len bs = is ∙ take_rest bs len in
+    number_is_read bytes bs rest len old new h form (ap Some behind ∙ sym read) (omega (arith, ap length behind, length-drop len bs)) all
+
+pub quoted_is_read : (bytes bs within rest : List ℕ) (extent : ℕ) (plain : Bool) (old new : List Entry) → EndsIn bytes bs
+    → Some within ≡ after_byte quotation_mark bs → Some rest ≡ behind_string within → (plain ≡ true → IsPlain within rest)
+    → (plain ≡ true → extent ≡ length bs - length rest) → (plain ≡ false → extent ≡ 0) → new ≡ old ++ entry bytes bs extent ∷ []
+    → IsReadInto one bytes old new rest (leaf words (quoted_at bs))
+quoted_is_read bytes bs within rest extent plain old new h e b p t f all =
     let r : Behind within rest = behind_read within rest b in
     let is : bs ≡ quotation_mark ∷ within = after_byte_is quotation_mark bs within (sym e) in
     let read : quoted_at bs ≡ Some (r.text, rest) = ap (λ (r : Option (List ℕ)). r >>= λ bs. string_at bs) (sym e) ∙ r.read in
@@ -100,9 +114,25 @@ quoted_is_read bytes bs within rest skipped extent plain old new h e b p t f k a
     } in
     record {
       what = words r.text;
-      is_read = leaf_is words (quoted_at bs) r.text rest skipped read k;
+      is_read = leaf_is words (quoted_at bs) r.text rest read;
       adds = subst (λ v. AddsEntries bytes old new (v ∷ [])) spelled (adds_leaf bytes bs extent old new h (omega (arith, ap length is)) is_leaf all);
     }
+
+-- the same of a string that ends within a block
+pub short_quoted_is_read : (bytes bs within rest : List ℕ) (len : ℕ) (old new : List Entry) → EndsIn bytes bs
+    → Some within ≡ after_byte quotation_mark bs → IsPlainAscii within len
+    → rest ≡ take (length within - (len + 1)) (drop (len + 1) within) → new ≡ old ++ entry bytes bs (len + 2) ∷ []
+    → IsReadInto one bytes old new rest (leaf words (quoted_at bs))
+short_quoted_is_read bytes bs within rest len old new h e s behind all =
+    let is : bs ≡ quotation_mark ∷ within = after_byte_is quotation_mark bs within (sym e) in
+    let at : rest ≡ drop (len + 1) within = behind ∙ take_rest within (len + 1) in
+    let left : length rest + len + 1 ≡ length within = omega (arith, ap length at, length-drop (len + 1) within, s.within) in
+    let all_of : len ≡ length within - (length rest + 1) = omega arith in
+    let read : string_at within ≡ Some (take len within, rest) = s.read ∙ ap (λ (r : List ℕ). Some (take len within, r)) (sym at) in
+    quoted_is_read bytes bs within rest (len + 2) true old new h e
+    (sym (ap (λ (r : Option (List ℕ × List ℕ)). r >>= λ x. Some x.1) read))
+    (λ _. read ∙ ap (λ (n : ℕ). Some (take n within, rest)) all_of)
+    (λ _. omega (arith, ap length is)) (λ q. cc) all
 
 -- a name, from the string and the colon behind it
 abbrev name_from : List ℕ → List ℕ → Option (List ℕ × List ℕ)
@@ -139,21 +169,23 @@ leaf_none (Some x) h = cc
 name_is : (bs rest text behind : List ℕ) → quoted_at bs ≡ Some (text, behind) → rest ≡ skip behind → name_at bs ≡ name_from text rest
 name_is bs rest text behind e k = name_by bs ∙ ap name_in e ∙ ap (name_from text) (sym k)
 
-pub name_is_read : (bytes bs rest more skipped : List ℕ) (old new : List Entry) → IsReadInto one bytes old new rest (leaf words (quoted_at bs)) → Some more ≡ after_byte colon rest → skipped ≡ skip more → IsReadInto name_alone bytes old new skipped (name_at bs)
-name_is_read bytes bs rest more skipped old new t e k =
-    let l : LeafRead (quoted_at bs) t.what rest = leaf_read (quoted_at bs) t.what rest t.is_read in
-    let found : name_from l.text rest ≡ Some (l.text, skipped) = ap (λ (r : Option (List ℕ)). r >>= λ bs. let x : List ℕ × List ℕ = (l.text, skip bs) in Some x) (sym e) ∙ ap (λ (s : List ℕ). Some (l.text, s)) (sym k) in
+pub name_is_read : (bytes bs rest more : List ℕ) (old new : List Entry) → IsReadInto one bytes old new rest (leaf words (quoted_at bs))
+    → Some more ≡ after_byte colon (skip rest) → IsReadInto name_alone bytes old new more (name_at bs)
+name_is_read bytes bs rest more old new t e =
+    let l : LeafRead (quoted_at bs) t.what (skip rest) = leaf_read (quoted_at bs) t.what (skip rest) t.is_read in
     record {
       what = l.text;
-      is_read = name_is bs rest l.text l.behind l.read l.skipped ∙ found;
+      is_read = name_is bs (skip rest) l.text l.behind l.read l.skipped
+          ∙ ap (λ (r : Option (List ℕ)). r >>= λ bs. let x : List ℕ × List ℕ = (l.text, skip bs) in Some x) (sym e);
       adds = subst (λ v. AddsEntries bytes old new (v ∷ [])) l.is t.adds;
     }
 
-pub no_colon : (bytes bs rest : List ℕ) (old new : List Entry) → IsReadInto one bytes old new rest (leaf words (quoted_at bs)) → None ≡ after_byte colon rest → name_at bs ≡ None
+pub no_colon : (bytes bs rest : List ℕ) (old new : List Entry) → IsReadInto one bytes old new rest (leaf words (quoted_at bs))
+    → None ≡ after_byte colon (skip rest) → name_at bs ≡ None
 no_colon bytes bs rest old new t e =
-    let l : LeafRead (quoted_at bs) t.what rest = leaf_read (quoted_at bs) t.what rest t.is_read in
-    let found : name_from l.text rest ≡ None = ap (λ (r : Option (List ℕ)). r >>= λ bs. let x : List ℕ × List ℕ = (l.text, skip bs) in Some x) (sym e) in
-    name_is bs rest l.text l.behind l.read l.skipped ∙ found
+    let l : LeafRead (quoted_at bs) t.what (skip rest) = leaf_read (quoted_at bs) t.what (skip rest) t.is_read in
+    name_is bs (skip rest) l.text l.behind l.read l.skipped
+    ∙ ap (λ (r : Option (List ℕ)). r >>= λ bs. let x : List ℕ × List ℕ = (l.text, skip bs) in Some x) (sym e)
 
 pub no_name : (e : JsonError) (bs : List ℕ) → Fails e (leaf words (quoted_at bs)) → Fails e (name_at bs)
 no_name errors.OutOfMemory bs h = tt

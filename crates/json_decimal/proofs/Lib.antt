@@ -1,5 +1,6 @@
 pub mod Words
 pub mod Lanes
+pub mod Fronts
 pub mod Digits
 pub mod Steps
 pub mod Rules
@@ -21,6 +22,7 @@ pub mod Texts
 pub mod Told
 pub mod Extents
 pub mod Added
+pub mod NestedRead
 pub mod Leaves
 pub mod Behinds
 pub mod Parted

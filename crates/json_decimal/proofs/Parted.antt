@@ -12,8 +12,9 @@ use Rattle.json_decimal.proofs.Leaves.{Behind, behind_read, none_behind}
 use Rattle.json_decimal.proofs.Formed.{chars_scalar}
 use Rattle.json_decimal.proofs.Runs.{string_at_shrinks}
 use Rattle.json_decimal.proofs.SoundString.{StringRead, string_sound}
+use Rattle.json_decimal.specs.Handles.{split_name}
 use Rattle.json_decimal.specs.Parts.{split_first, form_of, text_of, items_of, members_of}
-use Rattle.json_decimal.specs.Entries.{words_of, read_or_none, text_from, number_from, paired, form_from, value_as, inside_as, value_from, inside_of, inside, values_on, values_inside, value_on, spelled_at}
+use Rattle.json_decimal.specs.Entries.{words_of, read_or_none, text_from, number_from, paired, form_from, value_as, value_from, inside, values_on, values_inside, value_on, spelled_at}
 use Rattle.json_decimal.specs.declared.entry.Entry.{Entry}
 use Rattle.json_decimal.specs.declared.form.JsonForm.{JsonForm}
 use Rattle.json_decimal.specs.declared.form.JsonForm.TheVariants as forms
@@ -84,6 +85,27 @@ split_some [] ys x h = cc
 split_some (z ∷ zs) ys x h =
     let k : (x, ys) ≡ (z, zs) = cc in
     sym (ap (λ (p : _ × List _). p.0 ∷ p.1) k)
+
+-- what is no string gives an empty name
+no_words : (f : JsonForm) (bs : List ℕ) (inside : List JsonValue) → (f ≡ forms.Words → ⊥) → words_of (value_as f bs inside) ≡ []
+no_words forms.Null bs inside h = refl
+no_words forms.True bs inside h = refl
+no_words forms.False bs inside h = refl
+no_words forms.Number bs inside h = refl
+no_words forms.Words bs inside h = absurd (h refl)
+no_words forms.List bs inside h = refl
+no_words forms.Object bs inside h = refl
+
+pub no_name_is : (bytes : List ℕ) (es rest left : List Entry) (e : Entry) (f : JsonForm) → es ≡ e ∷ rest → left ≡ drop (inside bytes e) rest
+    → f ≡ form_from (drop e.start bytes) → (f ≡ forms.Words → ⊥)
+    → Some ([], values_on bytes left 0 (length left)) ≡ split_name (values_on bytes es 0 (length es))
+no_name_is bytes es rest left e f h k is other =
+    let first : values_on bytes es 0 (length es) ≡ value_on bytes es ∷ values_on bytes left 0 (length left) =
+    split_some (values_on bytes es 0 (length es)) (values_on bytes left 0 (length left)) (value_on bytes es) (next_is bytes es rest left e h k) in
+    let none : words_of (value_on bytes es) ≡ [] =
+    ap (λ (l : List Entry). words_of (value_on bytes l)) h
+    ∙ no_words (form_from (drop e.start bytes)) (drop e.start bytes) (values_inside bytes (e ∷ rest)) (λ w. other (is ∙ w)) in
+    ap (λ (n : List ℕ). Some (n, values_on bytes left 0 (length left))) (sym none) ∙ ap split_name (sym first)
 
 pub no_member : (vs : List JsonValue) → None ≡ split_first vs → None ≡ split_first (paired vs)
 no_member vs h = ap (λ (l : List JsonValue). split_first (paired l)) (sym (split_none vs h))

@@ -1,7 +1,7 @@
 -- What the handles on a JSON text stand for.
-use Rattle.std.specs.Prelude.{ℕ, List, length}
+use Rattle.std.specs.Prelude.{ℕ, List, [], ◌∷◌, length, Option, Some, None}
 use Rattle.json_decimal.specs.JsonValue.{JsonValue}
-use Rattle.json_decimal.specs.Entries.{text_from, paired, values_on, value_on}
+use Rattle.json_decimal.specs.Entries.{text_from, words_of, paired, values_on, value_on}
 use Rattle.json_decimal.specs.declared.json_ref.JsonRef.{JsonRef}
 use Rattle.json_decimal.specs.declared.json_string.JsonString.{JsonString}
 use Rattle.json_decimal.specs.declared.json_string.JsonString.TheVariants as strings
@@ -28,3 +28,8 @@ items_left i = values_on i.bytes.now i.entries.now 0 (length i.entries.now)
 -- the members of an object that are left
 abbrev pub members_left : JsonMembers → List (List ℕ × JsonValue)
 members_left m = paired (items_left m.parts)
+
+-- the first value as the name of a member, and the values behind it
+abbrev pub split_name : List JsonValue → Option (List ℕ × List JsonValue)
+split_name [] = None
+split_name (n ∷ vs) = Some (words_of n, vs)

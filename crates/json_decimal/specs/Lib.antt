@@ -13,6 +13,7 @@ pub mod Code
 pub mod Falls
 pub mod Entries
 pub mod ReadsInto
+pub mod Nested
 pub mod Parts
 pub mod Handles
 pub mod Named

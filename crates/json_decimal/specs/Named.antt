@@ -1,5 +1,5 @@
 -- The values of members by their names.
-use Rattle.std.specs.Prelude.{ℕ, List, [], ◌∷◌, map, if◌then◌else◌, Option, Some, None, option_map, bytes_eq}
+use Rattle.std.specs.Prelude.{ℕ, List, [], ◌∷◌, map, if◌then◌else◌, Option, Some, option_map, bytes_eq}
 use Rattle.std.specs.Borrow.{Bor}
 use Rattle.json_decimal.specs.Handles.{json_of}
 use Rattle.json_decimal.specs.JsonValue.{JsonValue, later, last_of}

@@ -2,7 +2,7 @@
 use Rattle.std.specs.Prelude.{◌≡◌, ℕ, ◌+◌, ◌-◌, List, [], ◌∷◌, ◌++◌, length, IsTrue, Option, Some, Result, Ok, Err}
 use Rattle.std.proofs.Common.{Bor}
 use Rattle.json_decimal.specs.JsonValue.{JsonValue, words}
-use Rattle.json_decimal.specs.Scan.{Fails}
+use Rattle.json_decimal.specs.Scan.{Fails, skip}
 use Rattle.json_decimal.specs.Entries.{form_from, inside_of, values_on, is_extent, AreEntries}
 use Rattle.json_decimal.specs.declared.entry.Entry.{Entry}
 use Rattle.json_decimal.specs.declared.error.JsonError.{JsonError}
@@ -29,10 +29,10 @@ pub record AddsEntries (bytes : List ℕ) (old new : List Entry) (vs : List Json
   pub stands : Stands bytes added vs
   pub entries : AreEntries bytes added
 
--- what was read, and that the entries for it were added
+-- what was read, up to white space that is still there, and that the entries for it were added
 pub record IsReadInto {A : Type 0} (values_of : A → List JsonValue) (bytes : List ℕ) (old new : List Entry) (rest : List ℕ) (read : Option (A × List ℕ)) : Type 0 where
   pub what : A
-  pub is_read : read ≡ Some (what, rest)
+  pub is_read : read ≡ Some (what, skip rest)
   pub adds : AddsEntries bytes old new (values_of what)
 
 -- What a step returned is what is read, and its entries were added, unless memory ran out.

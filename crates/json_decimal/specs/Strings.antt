@@ -89,8 +89,8 @@ runs_within (suc n) bs = run_by (runs_within n) bs
 unfoldable pub string_at : Reader (List ℕ)
 string_at bs = runs_within (length bs) bs
 
--- a string of this many bytes ends within a block, and all of them are in ASCII and stand for themselves
-pub record IsShort (bs : List ℕ) (len : ℕ) : Type 0 where
+-- a string of this many bytes, all of which are in ASCII and stand for themselves
+pub record IsPlainAscii (bs : List ℕ) (len : ℕ) : Type 0 where
   pub within : len < length bs
   pub text : IsUtf8 (take len bs)
   pub read : string_at bs ≡ Some (take len bs, drop (len + 1) bs)

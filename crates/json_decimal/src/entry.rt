@@ -56,4 +56,28 @@ impl Entry {
     {
         inside_as(self.form(bytes), self.extent)
     }
+
+    /// The entries that stand behind all that is inside it, of those behind this one.
+    #[inline(always)]
+    pub fn others<'a>(self, bytes: &[u8], behind: &'a [Entry]) -> &'a [Entry]
+        requires { IsTrue (is_entry bytes.now self) }
+        ensures { result.now ≡ drop (inside bytes.now self) behind.now }
+    {
+        match self.form(bytes) {
+            JsonForm::List | JsonForm::Object => entries_behind(behind, self.extent as usize),
+            _ => behind,
+        }
+    }
+}
+
+/// The entries behind the first `count` of them.
+#[inline(always)]
+fn entries_behind(entries: &[Entry], count: usize) -> &[Entry]
+    ensures { result.now ≡ drop count entries.now }
+{
+    if count <= entries.len() {
+        &entries[count..]
+    } else {
+        &[]
+    }
 }

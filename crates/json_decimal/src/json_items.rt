@@ -1,9 +1,11 @@
 //! Going over the items of a list.
-ghost use Rattle.std.specs.Prelude.{◌≡◌, drop};
+ghost use Rattle.std.specs.Prelude.{◌≡◌};
 ghost use Rattle.json_decimal.specs.Entries.{AreEntries};
 
 use crate::entry::Entry;
+use crate::form::JsonForm;
 use crate::json_ref::JsonRef;
+use crate::json_string::JsonString;
 
 /// The values of a list of a JSON text that are left, in order.
 #[derive(Clone, Copy, Debug)]
@@ -15,21 +17,9 @@ pub struct JsonItems<'a> {
     ghost told: { AreEntries bytes.now entries.now },
 }
 
-/// The entries behind the first `count` of them.
-#[inline(always)]
-fn entries_behind(entries: &[Entry], count: usize) -> &[Entry]
-    ensures { result.now ≡ drop count entries.now }
-{
-    if count <= entries.len() {
-        &entries[count..]
-    } else {
-        &[]
-    }
-}
-
 impl<'a> JsonItems<'a> {
     ghost use Rattle.std.specs.Prelude.{◌≡◌, [], option_map, IfNone};
-    ghost use Rattle.json_decimal.specs.Handles.{json_of, items_left};
+    ghost use Rattle.json_decimal.specs.Handles.{json_of, text_in, items_left, split_name};
     ghost use Rattle.json_decimal.specs.Parts.{split_first};
 
     /// The next value, which is then no longer left.
@@ -54,8 +44,31 @@ impl<'a> JsonItems<'a> {
             bytes: self.bytes,
             entries: self.entries,
         };
-        self.entries = entries_behind(rest, first.inside(self.bytes));
+        self.entries = first.others(self.bytes, rest);
         Some(value)
+    }
+
+    /// The next value as the name of a member, which is empty if it is no string.
+    #[inline(always)]
+    pub(crate) fn take_name(&mut self) -> Option<JsonString<'a>>
+        ensures first { option_map (λ name. (text_in name, items_left self.new)) result
+            ≡ split_name (items_left self.old) }
+        ensures end { IfNone result (items_left self.new ≡ []) }
+    {
+        let Some((first, rest)) = self.entries.split_first() else {
+            return None;
+        };
+        match first.form(self.bytes) {
+            JsonForm::Words => {
+                let name = JsonString::spelled(first.spelled(self.bytes), first.extent as usize);
+                self.entries = rest;
+                Some(name)
+            }
+            _ => {
+                self.entries = first.others(self.bytes, rest);
+                Some(JsonString::Plain(""))
+            }
+        }
     }
 }
 

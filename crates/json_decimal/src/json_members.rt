@@ -4,7 +4,6 @@ ghost use Rattle.json_decimal.specs.JsonValue.{last_of};
 ghost use Rattle.json_decimal.specs.Named.{lasts, plain, seen, with_member};
 ghost use Rattle.json_decimal.specs.Handles.{json_of, text_in, member_of, members_left};
 ghost use Rattle.json_decimal.specs.Parts.{split_first};
-ghost use Rattle.json_decimal.specs.Entries.{words_of};
 
 use crate::json_items::JsonItems;
 use crate::json_ref::JsonRef;
@@ -49,9 +48,9 @@ impl<'a> JsonMembers<'a> {
             ≡ split_first (members_left self.old) }
         ensures end { IfNone result (members_left self.new ≡ []) }
     {
-        let name = self.parts.take_next()?;
+        let name = self.parts.take_name()?;
         let value = self.parts.take_next()?;
-        Some((name_of(name), value))
+        Some((name, value))
     }
 }
 
@@ -68,17 +67,6 @@ impl<'a> Iterator for JsonMembers<'a> {
     #[inline(always)]
     fn next(&mut self) -> Option<(JsonString<'a>, JsonRef<'a>)> {
         self.take_next()
-    }
-}
-
-/// The string that an entry stands for, and else an empty one.
-#[inline(always)]
-fn name_of(name: JsonRef<'_>) -> JsonString<'_>
-    ensures { text_in result ≡ words_of (json_of name.entry) }
-{
-    match name.text() {
-        Some(text) => text,
-        None => JsonString::Plain(""),
     }
 }
 

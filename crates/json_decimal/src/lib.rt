@@ -16,10 +16,13 @@ mod json_text;
 mod laws;
 mod limits;
 mod list;
+mod nesting;
 mod numbers;
 mod object;
 mod parser;
+mod primitives;
 mod scan;
+mod short_numbers;
 mod strings;
 
 pub use error::JsonError;

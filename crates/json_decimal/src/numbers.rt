@@ -1,37 +1,14 @@
 //! The parts of a number.
-ghost use Rattle.std.specs.Prelude.{◌≡◌, option_map, IfSome};
+ghost use Rattle.std.specs.Prelude.{◌≡◌, option_map};
 ghost use Rattle.json_decimal.specs.Numbers.{after_digits, after_some_digits, after_minus, after_int};
 ghost use Rattle.json_decimal.specs.Numbers.{after_frac, after_sign, after_exp, after_number};
-ghost use Rattle.json_decimal.specs.Numbers.{AreFewDigits};
 ghost use Rattle.json_decimal.specs.Scan.{Tells};
 
-use crate::blocks::{DIGITS, digits_len};
 use crate::error::JsonError;
 
 /// The bytes behind digits.
-#[inline(always)]
-fn after_digits(bytes: &[u8]) -> &[u8]
-    ensures { result.now ≡ after_digits bytes.now }
-{
-    match few_digits(bytes) {
-        Some(count) => &bytes[count..],
-        None => after_any_digits(bytes),
-    }
-}
-
-/// How many digits stand here, where they end within a block.
-#[inline(always)]
-fn few_digits(bytes: &[u8]) -> Option<usize>
-    ensures { IfSome result (AreFewDigits bytes.now) }
-{
-    let block = bytes.first_chunk::<DIGITS>()?;
-    let count = digits_len(block);
-    if count < DIGITS { Some(count) } else { None }
-}
-
-/// The bytes behind any number of digits.
 #[inline(never)]
-fn after_any_digits(bytes: &[u8]) -> &[u8]
+fn after_digits(bytes: &[u8]) -> &[u8]
     ensures { result.now ≡ after_digits bytes.now }
 {
     let mut rest = bytes;
@@ -41,7 +18,6 @@ fn after_any_digits(bytes: &[u8]) -> &[u8]
     rest
 }
 
-#[inline(always)]
 fn after_some_digits(bytes: &[u8]) -> Option<&[u8]>
     ensures { option_map (λ r. r.now) result ≡ after_some_digits bytes.now }
 {
@@ -51,7 +27,6 @@ fn after_some_digits(bytes: &[u8]) -> Option<&[u8]>
     }
 }
 
-#[inline(always)]
 fn after_minus(bytes: &[u8]) -> &[u8]
     ensures { result.now ≡ after_minus bytes.now }
 {
@@ -61,7 +36,6 @@ fn after_minus(bytes: &[u8]) -> &[u8]
     }
 }
 
-#[inline(always)]
 fn after_int(bytes: &[u8]) -> Option<&[u8]>
     ensures { option_map (λ r. r.now) result ≡ after_int bytes.now }
 {
@@ -71,7 +45,6 @@ fn after_int(bytes: &[u8]) -> Option<&[u8]>
     }
 }
 
-#[inline(always)]
 fn after_frac(bytes: &[u8]) -> Option<&[u8]>
     ensures { option_map (λ r. r.now) result ≡ after_frac bytes.now }
 {
@@ -81,7 +54,6 @@ fn after_frac(bytes: &[u8]) -> Option<&[u8]>
     }
 }
 
-#[inline(always)]
 fn after_sign(bytes: &[u8]) -> &[u8]
     ensures { result.now ≡ after_sign bytes.now }
 {
@@ -91,7 +63,6 @@ fn after_sign(bytes: &[u8]) -> &[u8]
     }
 }
 
-#[inline(always)]
 fn after_exp(bytes: &[u8]) -> Option<&[u8]>
     ensures { option_map (λ r. r.now) result ≡ after_exp bytes.now }
 {
@@ -102,7 +73,6 @@ fn after_exp(bytes: &[u8]) -> Option<&[u8]>
 }
 
 /// The bytes behind a number (RFC 8259, section 6).
-#[inline(always)]
 fn after_number(bytes: &[u8]) -> Option<&[u8]>
     ensures { option_map (λ r. r.now) result ≡ after_number bytes.now }
 {
@@ -112,7 +82,6 @@ fn after_number(bytes: &[u8]) -> Option<&[u8]>
 }
 
 /// The bytes behind a number, which has to stand here.
-#[inline(always)]
 pub fn past_number(bytes: &[u8]) -> Result<&[u8], JsonError>
     ensures { Tells (λ r. r.now) result (after_number bytes.now) }
 {

@@ -4,7 +4,7 @@ ghost use Rattle.std.specs.Char.{IsScalar};
 ghost use Rattle.json_decimal.specs.Characters.{hex_digit, short_escape};
 ghost use Rattle.json_decimal.specs.Scan.{Tells, after};
 ghost use Rattle.json_decimal.specs.Strings.{unit_at, low_at, units_at, escape_at};
-ghost use Rattle.json_decimal.specs.Strings.{plain_len, run_end, string_at, behind_string, IsShort, IsPlain};
+ghost use Rattle.json_decimal.specs.Strings.{plain_len, run_end, string_at, behind_string, IsPlainAscii, IsPlain};
 ghost use Rattle.json_decimal.specs.Strings.{TellsText};
 ghost use Rattle.json_decimal.specs.Seen.{run_end_view};
 
@@ -140,11 +140,11 @@ fn end_of_run(bytes: &[u8]) -> RunEnd<'_>
     }
 }
 
-/// The length of a string in ASCII with no escape and fewer bytes than a block, from behind its opening
-/// quotation mark.
+/// The length of a string in ASCII with no escape that ends within a block, from behind its opening quotation
+/// mark.
 #[inline(always)]
-fn short_len(bytes: &[u8]) -> Option<usize>
-    ensures { IfSome result (IsShort bytes.now) }
+pub fn short_string_len(bytes: &[u8]) -> Option<usize>
+    ensures { IfSome result (IsPlainAscii bytes.now) }
 {
     let block = bytes.first_chunk::<BLOCK>()?;
     let len = plain_ascii_len(block);
@@ -153,6 +153,27 @@ fn short_len(bytes: &[u8]) -> Option<usize>
     } else {
         None
     }
+}
+
+/// The same of one of any length.
+fn plain_ascii_string_len(bytes: &[u8]) -> Option<usize>
+    ensures { IfSome result (IsPlainAscii bytes.now) }
+{
+    let mut rest = bytes;
+    let mut count = 0;
+    while let Some((block, more)) = rest.split_first_chunk::<BLOCK>() {
+        let len = plain_ascii_len(block);
+        if len < BLOCK {
+            return if block[len] == b'"' {
+                Some(count + len)
+            } else {
+                None
+            };
+        }
+        count += BLOCK;
+        rest = more;
+    }
+    None
 }
 
 /// The text of a string, from behind its opening quotation mark (RFC 8259, section 7), or None where none stands
@@ -187,19 +208,18 @@ pub fn text_at(alloc: Global, bytes: &[u8]) -> Result<Option<Text>, AllocError>
 
 /// Whether a string stands for itself, with no escape, and the bytes behind it, from behind its opening quotation
 /// mark.
-#[inline(always)]
+#[inline(never)]
 pub fn string_end(bytes: &[u8]) -> Option<(bool, &[u8])>
     ensures behind { option_map (λ x. x.1.now) result ≡ behind_string bytes.now }
     ensures plain { IfSome result (λ x. x.0 ≡ true → IsPlain bytes.now x.1.now) }
 {
-    match short_len(bytes) {
+    match plain_ascii_string_len(bytes) {
         Some(len) => Some((true, &bytes[len + 1..])),
         None => any_string_end(bytes),
     }
 }
 
 /// The same of any string.
-#[inline(never)]
 fn any_string_end(bytes: &[u8]) -> Option<(bool, &[u8])>
     ensures behind { option_map (λ x. x.1.now) result ≡ behind_string bytes.now }
     ensures plain { IfSome result (λ x. x.0 ≡ true → IsPlain bytes.now x.1.now) }
@@ -226,7 +246,6 @@ fn any_string_end(bytes: &[u8]) -> Option<(bool, &[u8])>
 }
 
 /// The same of a string that has to stand here.
-#[inline(always)]
 pub fn past_string(bytes: &[u8]) -> Result<(bool, &[u8]), JsonError>
     ensures behind { Tells (λ x. x.1.now) result (behind_string bytes.now) }
     ensures plain { IfOk result (λ x. x.0 ≡ true → IsPlain bytes.now x.1.now) }

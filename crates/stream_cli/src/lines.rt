@@ -76,10 +76,10 @@ fn root_value(value: JsonRef<'_>) -> Option<JsonRef<'_>>
 }
 
 /// The text of a document.
-fn read_text(alloc: Global, bytes: Vec<u8>) -> Result<JsonText, DocumentFault>
-    ensures value { IfOk result (λ text. value_in bytes.items ≡ Some text) }
-    ensures not_json { result ≡ Err DocumentFault.NotJson → document bytes.items ≡ Err documents.NotJson }
-    ensures too_long { result ≡ Err DocumentFault.TooLong → max_length < length bytes.items }
+fn read_text(alloc: Global, bytes: &[u8]) -> Result<JsonText<'_>, DocumentFault>
+    ensures value { IfOk result (λ text. value_in bytes.now ≡ Some text) }
+    ensures not_json { result ≡ Err DocumentFault.NotJson → document bytes.now ≡ Err documents.NotJson }
+    ensures too_long { result ≡ Err DocumentFault.TooLong → max_length < length bytes.now }
     ensures read { result ≢ Err DocumentFault.NotYet }
 {
     match JsonText::read(alloc, bytes) {
@@ -90,13 +90,13 @@ fn read_text(alloc: Global, bytes: Vec<u8>) -> Result<JsonText, DocumentFault>
     }
 }
 
-/// The tiles of a document. The document is let go.
-fn read_document(alloc: Global, bytes: Vec<u8>) -> Result<Vec<TileNode>, DocumentFault>
-    ensures tree { IfOk result (λ nodes. Reads bytes.items (root_of nodes.items)) }
+/// The tiles of a document.
+fn read_document(alloc: Global, bytes: &[u8]) -> Result<Vec<TileNode>, DocumentFault>
+    ensures tree { IfOk result (λ nodes. Reads bytes.now (root_of nodes.items)) }
     ensures room { IfOk result (λ nodes. HasRoom (length nodes.items) nodes.items) }
-    ensures not_json { result ≡ Err DocumentFault.NotJson → document bytes.items ≡ Err documents.NotJson }
-    ensures not_yet { result ≡ Err DocumentFault.NotYet → document bytes.items ≡ Err documents.NotYet }
-    ensures too_long { result ≡ Err DocumentFault.TooLong → max_length < length bytes.items }
+    ensures not_json { result ≡ Err DocumentFault.NotJson → document bytes.now ≡ Err documents.NotJson }
+    ensures not_yet { result ≡ Err DocumentFault.NotYet → document bytes.now ≡ Err documents.NotYet }
+    ensures too_long { result ≡ Err DocumentFault.TooLong → max_length < length bytes.now }
 {
     let text = read_text(alloc, bytes)?;
     let Some(root) = root_value(text.root()) else {
@@ -109,14 +109,14 @@ fn read_document(alloc: Global, bytes: Vec<u8>) -> Result<Vec<TileNode>, Documen
     }
 }
 
-/// The tile tree of a document.
+/// The tile tree of a document, which is let go.
 fn read_tree(alloc: Global, bytes: Vec<u8>) -> Result<ListedTree, DocumentFault>
     ensures tree { IfOk result (λ t. Reads bytes.items (root_of t.nodes.items)) }
     ensures not_json { result ≡ Err DocumentFault.NotJson → document bytes.items ≡ Err documents.NotJson }
     ensures not_yet { result ≡ Err DocumentFault.NotYet → document bytes.items ≡ Err documents.NotYet }
     ensures too_long { result ≡ Err DocumentFault.TooLong → max_length < length bytes.items }
 {
-    let nodes = read_document(alloc, bytes)?;
+    let nodes = read_document(alloc, &bytes)?;
     Ok(ListedTree::new(alloc, nodes))
 }
 

@@ -1,30 +1,27 @@
 use Rattle.std.proofs.Common.{◌+◌, ◌-◌, ◌*◌, length}
-use Rattle.json_decimal.specs.Ascii.{right_square_bracket, right_curly_bracket}
-use Rattle.json_decimal.specs.Reading.{pair_at, value_at}
-use Rattle.json_decimal.specs.ReadsInto.{one, member_alone}
-use Rattle.json_decimal.proofs.Added.{HasRead}
+use Rattle.json_decimal.proofs.NestedRead.{HasRead}
 use Rattle.json_decimal.proofs.entries.+reading.Given as goal
 
+abbrev pub decreases-nested : goal.decreases-nested
+decreases-nested l = 5 * l.depth
+
 abbrev pub decreases-list : goal.decreases-list
-decreases-list l = 3 * l.depth
+decreases-list l = 5 * l.depth + 1
 
 abbrev pub decreases-object : goal.decreases-object
-decreases-object l = 3 * l.depth
+decreases-object l = 5 * l.depth + 1
+
+abbrev pub decreases-inner : goal.decreases-inner
+decreases-inner l = 5 * l.depth + 2
 
 abbrev pub decreases-value : goal.decreases-value
-decreases-value l = 3 * l.depth + 1
+decreases-value l = 5 * l.depth + 3
 
-abbrev pub decreases-member : goal.decreases-member
-decreases-member l = 3 * l.depth + 2
+abbrev pub decreases-item : goal.decreases-item
+decreases-item l = 5 * l.depth + 4
 
-abbrev pub invariant-list-loop-after : goal.invariant-list-loop-after
-invariant-list-loop-after l = HasRead one right_square_bracket (value_at (l.depth - 1)) l.bytes l.spelled l.inside l.fn.entries.items l.entries.items l.rest
+abbrev pub invariant-nested-loop-after : goal.invariant-nested-loop-after
+invariant-nested-loop-after l = HasRead l.nesting (l.depth - 1) l.bytes l.spelled l.inside l.fn.entries.items l.entries.items l.rest
 
-abbrev pub decreases-list-loop-after : goal.decreases-list-loop-after
-decreases-list-loop-after l = length l.rest
-
-abbrev pub invariant-object-loop-after : goal.invariant-object-loop-after
-invariant-object-loop-after l = HasRead member_alone right_curly_bracket (pair_at (value_at (l.depth - 1))) l.bytes l.spelled l.inside l.fn.entries.items l.entries.items l.rest
-
-abbrev pub decreases-object-loop-after : goal.decreases-object-loop-after
-decreases-object-loop-after l = length l.rest
+abbrev pub decreases-nested-loop-after : goal.decreases-nested-loop-after
+decreases-nested-loop-after l = length l.rest

@@ -1,8 +1,8 @@
-use Rattle.std.proofs.Common.{◌≡◌, ◌∷◌, [], List, ℕ, Bor, ◌∙◌, suc, drop, drop-cons, get_or, bytes_eq, sym}
+use Rattle.std.proofs.Common.{◌≡◌, ◌∷◌, [], List, ℕ, Bor, ◌∙◌, suc, drop, drop-cons, get_or, bytes_eq}
 use Rattle.std.proofs.lemmas.List.{length-map}
 use Rattle.std.specs.Prelude.{option_map}
 use Rattle.json_decimal.specs.Handles.{json_of, text_in}
-use Rattle.json_decimal.specs.Named.{plain, seen}
+use Rattle.json_decimal.specs.Named.{seen}
 use Rattle.json_decimal.proofs.NamedValues.{put_step, put_done, seen_put, seen_left}
 use Rattle.json_decimal.proofs.json_members.put.Goals as goal
 use Rattle.json_decimal.proofs.json_members.put.Goals.{then-is, else-is}

@@ -1,5 +1,4 @@
-use Rattle.std.proofs.Common.{◌∙◌, sym, ap}
-use Rattle.json_decimal.specs.Handles.{items_left, json_of}
+use Rattle.json_decimal.specs.Handles.{items_left}
 use Rattle.json_decimal.proofs.Parted.{list_parts}
 use Rattle.json_decimal.proofs.json_ref.JsonRef.items.Goals as goal
 

@@ -1,4 +1,3 @@
-use Rattle.std.proofs.Common.{sym, subst}
 use Rattle.json_decimal.proofs.Told.{entry_extent}
 use Rattle.json_decimal.proofs.Extents.{number_extent_utf8}
 use Rattle.json_decimal.specs.declared.form.JsonForm.TheVariants as forms

@@ -1,4 +1,4 @@
-use Rattle.std.proofs.Common.{◌≡◌, ◌-◌, ap, subst, take, drop, arith}
+use Rattle.std.proofs.Common.{◌≡◌, ◌-◌, arith}
 use Rattle.json_decimal.proofs.Extents.{plain_extent_utf8}
 use Rattle.json_decimal.proofs.json_string.JsonString.spelled.Goals as goal
 

@@ -1,4 +1,4 @@
-use Rattle.std.proofs.Common.{◌≡◌, List, ℕ, Option, Some, Result, Err, Vec, Global, subst}
+use Rattle.std.proofs.Common.{◌≡◌, Option, Result, Err, Vec, Global}
 use Rattle.std.proofs.lemmas.Result.{err_from_is_err_and}
 use Rattle.json_decimal.specs.declared.entry.Entry.{Entry}
 use Rattle.json_decimal.specs.declared.error.JsonError.{JsonError}
@@ -15,27 +15,21 @@ use Rattle.json_decimal.proofs.json_text.JsonText.read.Goals as goal
 same_refusal : {A B : Type 0} (r : Result A JsonError) (e f : JsonError) → r ≡ Err e → e ≡ f → r ≡ Err errors.NotJson → ◌≡◌ {A = Result B JsonError} (Err f) (Err errors.NotJson)
 same_refusal r e f h k l = cc
 
-read_at : (bs cs : List ℕ) (es : List Entry) → cs ≡ bs → value_in cs ≡ Some (value_on cs es) → value_in bs ≡ Some (value_on bs es)
-read_at bs cs es e h = let P : List ℕ → Type 0 = λ bs. value_in bs ≡ Some (value_on bs es) in subst P e h
-
 -- what a refusal says doesn't depend on what is seen of a value
 given : (view : Vec Entry Global → JsonValue) (e : JsonError) (read : Option JsonValue) → Gives view (Err e) read → Gives {X = JsonValue} (λ v. v) (Err e) read
 given view errors.NotJson read h = h
 given view errors.TooLong read h = tt
 given view errors.OutOfMemory read h = tt
 
-refused_at : (bs cs : List ℕ) (e : JsonError) → cs ≡ bs → Gives {X = JsonValue} (λ v. v) (Err e) (value_in cs) → Gives {X = JsonValue} (λ v. v) (Err e) (value_in bs)
-refused_at bs cs e k h = let P : List ℕ → Type 0 = λ bs. Gives {X = JsonValue} (λ v. v) (Err e) (value_in bs) in subst P k h
-
 pub returns-in_err-entries-clause-refused : goal.returns-in_err-entries-clause-refused
 returns-in_err-entries-clause-refused c h =
     let p = err_from_is_err_and c.from_residual.result c.from_residual.ensures.1 in
-    no_value {X = JsonValue} (λ v. v) c.args.bytes.items (Err c.in_err-entries.field-0.0)
-    (refused_at c.args.bytes.items c.deref.result.now c.in_err-entries.field-0.0 c.deref.ensures.value (given (λ entries. value_on c.deref.result.now entries.items) c.in_err-entries.field-0.0 (value_in c.deref.result.now) c.in_err-entries.ensures.exact))
+    no_value {X = JsonValue} (λ v. v) c.args.bytes.now (Err c.in_err-entries.field-0.0)
+    (given (λ entries. value_on c.args.bytes.now entries.items) c.in_err-entries.field-0.0 (value_in c.args.bytes.now) c.in_err-entries.ensures.exact)
     (same_refusal c.from_residual.result p.0 c.in_err-entries.field-0.0 p.1 p.2 h)
 
 pub returns-clause-value : goal.returns-clause-value
-returns-clause-value c = value_in_sound c.args.bytes.items (value_on c.args.bytes.items c.in_ok-entries.entries.items) (read_at c.args.bytes.items c.deref.result.now c.in_ok-entries.entries.items c.deref.ensures.value c.in_ok-entries.ensures.exact)
+returns-clause-value c = value_in_sound c.args.bytes.now (value_on c.args.bytes.now c.in_ok-entries.entries.items) c.in_ok-entries.ensures.exact
 
 pub returns-clause-well_formed : goal.returns-clause-well_formed
-returns-clause-well_formed c = json_formed c.args.bytes.items (value_on c.args.bytes.items c.in_ok-entries.entries.items) (value_in_sound c.args.bytes.items (value_on c.args.bytes.items c.in_ok-entries.entries.items) (read_at c.args.bytes.items c.deref.result.now c.in_ok-entries.entries.items c.deref.ensures.value c.in_ok-entries.ensures.exact))
+returns-clause-well_formed c = json_formed c.args.bytes.now (value_on c.args.bytes.now c.in_ok-entries.entries.items) (value_in_sound c.args.bytes.now (value_on c.args.bytes.now c.in_ok-entries.entries.items) c.in_ok-entries.ensures.exact)
