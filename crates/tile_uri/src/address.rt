@@ -48,6 +48,15 @@ impl Address {
         &self.text
     }
 
+    /// The text alone, which is moved out.
+    pub fn into_text(self) -> Text
+        ensures value { result ≡ self }
+        ensures address { is_address self ≡ true }
+        ensures short { length self ≤ ADDRESS_LIMIT }
+    {
+        self.text
+    }
+
     /// The address that is the text of a URL.
     pub(crate) fn of_url(alloc: Global, url: &Url) -> Result<Address, UriError>
         requires address { IsAddress (serialize url.now) }
