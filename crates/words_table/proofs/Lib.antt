@@ -1,0 +1,6 @@
+pub mod CutWords
+pub mod Given
+pub mod Naming
+pub mod OnlyWord
+pub mod PlainWords
+pub mod Views

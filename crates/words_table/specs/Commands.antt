@@ -1,0 +1,79 @@
+-- The commands of the program: which words ask for which.
+use Rattle.std.specs.Prelude.{◌≡◌, ℕ, List, [], ◌∷◌, Option, Some, None, Result, Ok, Err, Bool}
+use Rattle.std.specs.Prelude.{bytes_eq, codes, false, map, nat_eq, if◌then◌else◌}
+use Rattle.std.specs.Borrow.{Bor}
+use Rattle.std.specs.List.{list_any, starts_with}
+use Rattle.std.specs.Result.{result_ok}
+use Rattle.tile_uri.specs.Addresses.{join}
+use Rattle.words_table.specs.Chains.{◌>>=◌}
+use Rattle.words_table.specs.Views.{view_of}
+use Rattle.words_table.specs.declared.command.Command.{Command}
+use Rattle.words_table.specs.declared.command.Command.TheVariants.{Cut, Tiles}
+use Rattle.words_table.specs.declared.command_name.CommandName.{CommandName}
+use Rattle.words_table.specs.declared.command_name.CommandName.TheVariants as name
+use Rattle.words_table.specs.declared.error.WordsError.{WordsError}
+use Rattle.words_table.specs.declared.error.WordsError.TheVariants.{NotACommand, OutOfMemory}
+
+-- the words that are passed, as texts
+abbrev pub texts : List (Bor (List ℕ)) → List (List ℕ)
+texts = map (λ word. word.now)
+
+-- ---- the table
+
+-- the address that a root word stands for below `http://tiles/` (URL Standard, section 4.4)
+abbrev pub root_of : List ℕ → Option (List ℕ)
+root_of word = result_ok (join (codes "http://tiles/") word)
+
+-- `cut ROOT VIEW`
+abbrev pub cut_of : List (List ℕ) → Option Command
+cut_of (root ∷ view ∷ []) =
+    root_of root >>= λ address. view_of view >>= λ parts. Some (Cut address parts)
+cut_of _ = None
+
+-- `tiles ROOT`
+abbrev pub tiles_of : List (List ℕ) → Option Command
+tiles_of (root ∷ []) = root_of root >>= λ address. Some (Tiles address)
+tiles_of _ = None
+
+-- what the words behind the name of a command ask for
+abbrev pub asked : CommandName × List (List ℕ) → Option Command
+asked (name.Cut, words) = cut_of words
+asked (name.Tiles, words) = tiles_of words
+
+-- ---- the words
+
+-- the command that a word names
+abbrev pub name_of : List ℕ → Option CommandName
+name_of word =
+    if bytes_eq word (codes "cut") then Some name.Cut
+    else (if bytes_eq word (codes "tiles") then Some name.Tiles else None)
+
+-- the word begins with `-`
+abbrev pub is_option : List ℕ → Bool
+is_option word = starts_with nat_eq word (codes "-")
+
+-- none of the words is an option
+abbrev pub HasNoOption : List (List ℕ) → Type 0
+HasNoOption words = list_any is_option words ≡ false
+
+-- the words, if none is an option
+abbrev pub without_options : List (List ℕ) → Option (List (List ℕ))
+without_options words = if list_any is_option words then None else Some words
+
+-- the command that the first word names, with the words behind it, of which none is an option
+abbrev pub named : List (List ℕ) → Option (CommandName × List (List ℕ))
+named [] = None
+named (word ∷ words) =
+    name_of word >>= λ command. without_options words >>= λ behind. Some (command, behind)
+
+-- the command that the words are, if they are one
+abbrev pub command_of : List (List ℕ) → Option Command
+command_of words = named words >>= asked
+
+-- ---- answers
+
+-- the answer is what is expected, and a refusal comes where nothing is, unless memory ran out
+abbrev pub Answers : {A : Type 0} → Result A WordsError → Option A → Type 0
+Answers (Ok x) expected = expected ≡ Some x
+Answers (Err NotACommand) expected = expected ≡ None
+Answers (Err OutOfMemory) expected = Unit {0}

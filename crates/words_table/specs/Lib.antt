@@ -1,0 +1,4 @@
+pub mod Chains
+pub mod Commands
+pub mod Places
+pub mod Views

@@ -1,0 +1,18 @@
+//! The words of a command line: which command of the program they are.
+#![tactic(auto)]
+
+mod command;
+mod command_name;
+mod error;
+mod law;
+mod places;
+mod word;
+mod words;
+
+pub use command::Command;
+pub use error::WordsError;
+pub use law::views_of_texts;
+pub use words::read_words;
+
+#[cfg(test)]
+mod tests;

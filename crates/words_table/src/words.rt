@@ -1,0 +1,61 @@
+//! The table of commands.
+
+ghost use Rattle.std.specs.Prelude.{IsErrOf, IsNone};
+ghost use Rattle.words_table.specs.Commands.{Answers, HasNoOption, command_of, cut_of};
+ghost use Rattle.words_table.specs.Commands.{named, texts, tiles_of};
+
+use crate::command::Command;
+use crate::command_name::{CommandName, split_name};
+use crate::error::WordsError;
+use crate::places::{cut_words, only_word};
+use crate::word::{root_of, view_of};
+use std::alloc::Global;
+
+/// The command that the words behind the program's name are.
+///
+/// Errors: `NotACommand` where they are none, or `OutOfMemory`.
+pub fn read_words(alloc: Global, words: &[&str]) -> Result<Command, WordsError>
+    ensures value { Answers result (command_of (texts words.now)) }
+
+    // Whatever memory there is.
+    ensures unnamed { IsNone (named (texts words.now)) → IsErrOf result WordsError.NotACommand }
+{
+    match split_name(words) {
+        Some((CommandName::Cut, behind)) => read_cut(alloc, behind),
+        Some((CommandName::Tiles, behind)) => read_tiles(alloc, behind),
+        None => Err(WordsError::NotACommand),
+    }
+}
+
+/// `cut ROOT VIEW`, of the words behind `cut`.
+fn read_cut(alloc: Global, words: &[&str]) -> Result<Command, WordsError>
+    requires { HasNoOption (texts words.now) }
+    ensures { Answers result (cut_of (texts words.now)) }
+{
+    let cut = match cut_words(alloc, words) {
+        Ok(cut) => cut,
+        Err(cause) => return Err(cause),
+    };
+    let Some(view) = view_of(cut.view) else {
+        return Err(WordsError::NotACommand);
+    };
+    match root_of(alloc, cut.root) {
+        Ok(root) => Ok(Command::Cut { root, view }),
+        Err(cause) => Err(cause),
+    }
+}
+
+/// `tiles ROOT`, of the words behind `tiles`.
+fn read_tiles(alloc: Global, words: &[&str]) -> Result<Command, WordsError>
+    requires { HasNoOption (texts words.now) }
+    ensures { Answers result (tiles_of (texts words.now)) }
+{
+    let word = match only_word(alloc, words) {
+        Ok(word) => word,
+        Err(cause) => return Err(cause),
+    };
+    match root_of(alloc, word) {
+        Ok(root) => Ok(Command::Tiles { root }),
+        Err(cause) => Err(cause),
+    }
+}
