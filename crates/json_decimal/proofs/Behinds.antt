@@ -14,5 +14,6 @@ no_behind (separator bs) h = cc
 no_behind (closing bs) h = cc
 no_behind neither h = cc
 
-pub seen : (b : Behind) (next arm : declared.Behind) → Some (behind_view next) ≡ either_behind b → next ≡ arm → behind_view arm ≡ b
+pub seen : (b : Behind) (next arm : declared.Behind) → Some (behind_view next) ≡ either_behind b
+    → next ≡ arm → behind_view arm ≡ b
 seen b next arm h is = sym (ap behind_view is) ∙ some_behind b (behind_view next) h

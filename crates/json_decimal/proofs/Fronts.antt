@@ -15,18 +15,22 @@ second_of n m a h = grind (arith, nat_tests)
 
 module _ {X : Type 0} (p : X → Bool) where
   joined : (m : ℕ) (xs : List X) → m ≤ length xs
-      → prefix_len p xs ≡ cond (eqb (prefix_len p (take m xs)) m) (m + prefix_len p (drop m xs)) (prefix_len p (take m xs))
+      → prefix_len p xs ≡ cond (eqb (prefix_len p (take m xs)) m) (m + prefix_len p (drop m xs))
+      (prefix_len p (take m xs))
   joined m xs room =
       ap (prefix_len p) (sym (take-append-drop m xs))
       ∙ prefix_len-append p (take m xs) (drop m xs)
-      ∙ ap (λ n. cond (eqb (prefix_len p (take m xs)) n) (n + prefix_len p (drop m xs)) (prefix_len p (take m xs))) (length-take-le m xs room)
+      ∙ ap (λ n. cond (eqb (prefix_len p (take m xs)) n) (n + prefix_len p (drop m xs))
+      (prefix_len p (take m xs))) (length-take-le m xs room)
 
   -- they end within a block
-  pub ends_within : (m : ℕ) (xs : List X) → m ≤ length xs → prefix_len p (take m xs) < m → prefix_len p xs ≡ prefix_len p (take m xs)
+  pub ends_within : (m : ℕ) (xs : List X) → m ≤ length xs → prefix_len p (take m xs) < m
+      → prefix_len p xs ≡ prefix_len p (take m xs)
   ends_within m xs room h = joined m xs room ∙ first_of _ m _ h
 
   -- a block is one of them throughout
-  pub goes_on : (m : ℕ) (xs : List X) → m ≤ length xs → prefix_len p (take m xs) ≡ m → prefix_len p xs ≡ m + prefix_len p (drop m xs)
+  pub goes_on : (m : ℕ) (xs : List X) → m ≤ length xs → prefix_len p (take m xs) ≡ m
+      → prefix_len p xs ≡ m + prefix_len p (drop m xs)
   goes_on m xs room h = joined m xs room ∙ second_of _ m _ h
 
   halved : (b : Bool) (m : ℕ) → (cond b 1 0 + 2 * m) / 2 ≡ m
@@ -44,11 +48,13 @@ module _ {X : Type 0} (p : X → Bool) where
       ∙ mask-drop i xs
 
   -- the mask with one more that passes behind all
-  pub mask-push : (x : X) (xs : List X) → p x ≡ true → mask_l (map p (xs ++ x ∷ [])) ≡ mask_l (map p xs) + 2 ^ length xs
+  pub mask-push : (x : X) (xs : List X) → p x ≡ true
+      → mask_l (map p (xs ++ x ∷ [])) ≡ mask_l (map p xs) + 2 ^ length xs
   mask-push x [] h = ap (λ (b : Bool). cond b 1 0 + 2 * 0) h
   mask-push x (y ∷ ys) h = omega (arith, mask-push x ys h, two-pow-succ (length ys))
 
   -- that one ends them
-  pub ends_pushed : (x : X) (xs : List X) → p x ≡ true → prefix_len (λ y. not (p y)) (xs ++ x ∷ []) ≡ prefix_len (λ y. not (p y)) xs
+  pub ends_pushed : (x : X) (xs : List X) → p x ≡ true
+      → prefix_len (λ y. not (p y)) (xs ++ x ∷ []) ≡ prefix_len (λ y. not (p y)) xs
   ends_pushed x [] h = ap (λ (b : Bool). cond (not b) (1 + 0) 0) h
   ends_pushed x (y ∷ ys) h = ap (λ (n : ℕ). cond (not (p y)) (1 + n) 0) (ends_pushed x ys h)

@@ -26,6 +26,7 @@ pub mod NestedRead
 pub mod Leaves
 pub mod Behinds
 pub mod Parted
+pub mod NumberItems
 pub mod Yields
 pub mod NamedValues
 pub mod Spelled

@@ -21,8 +21,12 @@ use Rattle.json_decimal.proofs.Shrinks.{value_at_shrinks, pair_at_shrinks}
 use Rattle.json_decimal.proofs.Steps.{Shrinks}
 
 -- white space is passed over once
-skip_by : (b : ℕ) (bs : List ℕ) (t : Bool) → is_whitespace b ≡ t → skip (skip bs) ≡ skip bs → skip (skip (b ∷ bs)) ≡ skip (b ∷ bs)
-skip_by b bs true h rest = let e : skip (b ∷ bs) ≡ skip bs = ap (λ t. cond t (skip bs) (b ∷ bs)) h in ap skip e ∙ rest ∙ sym e
+skip_by : (b : ℕ) (bs : List ℕ) (t : Bool) → is_whitespace b ≡ t → skip (skip bs) ≡ skip bs
+    → skip (skip (b ∷ bs)) ≡ skip (b ∷ bs)
+skip_by b bs true h rest =
+    let e : skip (b ∷ bs) ≡ skip bs = ap (λ t. cond t (skip bs) (b ∷ bs)) h in ap skip e
+    ∙ rest
+    ∙ sym e
 skip_by b bs false h rest = ap skip (ap (λ t. cond t (skip bs) (b ∷ bs)) h)
 
 skip-skip : (bs : List ℕ) → skip (skip bs) ≡ skip bs
@@ -30,7 +34,8 @@ skip-skip [] = refl
 skip-skip (b ∷ bs) = skip_by b bs (is_whitespace b) refl (skip-skip bs)
 
 -- a name, up to its value
-pub name_before : (bytes bs behind at_value : List ℕ) (a b : List Entry) → IsReadInto name_alone bytes a b behind (name_at bs) → at_value ≡ skip behind
+pub name_before : (bytes bs behind at_value : List ℕ) (a b : List Entry)
+    → IsReadInto name_alone bytes a b behind (name_at bs) → at_value ≡ skip behind
     → IsReadInto name_alone bytes a b at_value (name_at bs) × (skip at_value ≡ at_value)
 name_before bytes bs behind at_value a b n e =
     let same : skip at_value ≡ skip behind = ap skip e ∙ skip-skip behind in (
@@ -43,37 +48,43 @@ name_before bytes bs behind at_value a b n e =
     )
 
 -- a member, from its name and its value
-member_is_read : (d : ℕ) (bytes bs at_value rest : List ℕ) (a b c : List Entry) → IsReadInto name_alone bytes a b at_value (name_at bs)
-    → skip at_value ≡ at_value → IsReadInto one bytes b c rest (value_at d at_value) → IsReadInto member_alone bytes a c rest (pair_at (value_at d) bs)
+member_is_read : (d : ℕ) (bytes bs at_value rest : List ℕ) (a b c : List Entry)
+    → IsReadInto name_alone bytes a b at_value (name_at bs)
+    → skip at_value ≡ at_value → IsReadInto one bytes b c rest (value_at d at_value)
+    → IsReadInto member_alone bytes a c rest (pair_at (value_at d) bs)
 member_is_read d bytes bs at_value rest a b c n e v = record {
   what = (n.what, v.what);
-  is_read = pair_some (value_at d) bs n.what at_value (skip rest) v.what (n.is_read ∙ ap (λ (s : List ℕ). Some (n.what, s)) e) v.is_read;
+  is_read =
+      pair_some (value_at d) bs n.what at_value (skip rest) v.what
+      (n.is_read ∙ ap (λ (s : List ℕ). Some (n.what, s)) e) v.is_read;
   adds = adds_then bytes a b c (name_alone n.what) (one v.what) n.adds v.adds;
 }
 
 -- an item, from what stands before its value and from that
-pub item_reads_into : (n : Nesting) (d : ℕ) (bytes bs : List ℕ) (at_value : Bor (List ℕ)) (a b c : List Entry) (r : Result (Bor (List ℕ)) JsonError)
+pub item_reads_into : (n : Nesting) (d : ℕ) (bytes bs : List ℕ) (at_value : Bor (List ℕ))
+    (a b c : List Entry) (r : Result (Bor (List ℕ)) JsonError)
     → ReadsBefore n bytes a b (Ok at_value) bs → ReadsInto one bytes b c r (value_at d at_value.now)
     → ReadsInto (item_values n) bytes a c r (item_at n d bs)
 item_reads_into nestings.List d bytes bs at_value a b c r n v =
     subst (λ (a : List Entry). ReadsInto one bytes a c r (value_at d bs)) n.0
     (subst (λ (bs : List ℕ). ReadsInto one bytes b c r (value_at d bs)) n.1 v)
-item_reads_into nestings.Object d bytes bs at_value a b c (Ok rest) n v = member_is_read d bytes bs at_value.now rest.now a b c n.0 n.1 v
+item_reads_into nestings.Object d bytes bs at_value a b c (Ok rest) n v =
+    member_is_read d bytes bs at_value.now rest.now a b c n.0 n.1 v
 item_reads_into nestings.Object d bytes bs at_value a b c (Err e) n f =
-    pair_fails_value e (value_at d) bs n.0.what at_value.now (n.0.is_read ∙ ap (λ (s : List ℕ). Some (n.0.what, s)) n.1) f
+    pair_fails_value e (value_at d) bs n.0.what at_value.now
+    (n.0.is_read ∙ ap (λ (s : List ℕ). Some (n.0.what, s)) n.1) f
 
-pub item_fails : (n : Nesting) (d : ℕ) (bytes bs : List ℕ) (a b : List Entry) (e : JsonError) → ReadsBefore n bytes a b (Err e) bs → Fails e (item_at n d bs)
+pub item_fails : (n : Nesting) (d : ℕ) (bytes bs : List ℕ) (a b : List Entry) (e : JsonError)
+    → ReadsBefore n bytes a b (Err e) bs → Fails e (item_at n d bs)
 item_fails nestings.List d bytes bs a b e f = absurd f
 item_fails nestings.Object d bytes bs a b e f = pair_fails_name e (value_at d) bs f
 
-pub value_ends : (n : Nesting) (bytes bs : List ℕ) (at_value : Bor (List ℕ)) (a b : List Entry) → EndsIn bytes bs → ReadsBefore n bytes a b (Ok at_value) bs
+pub value_ends : (n : Nesting) (bytes bs : List ℕ) (at_value : Bor (List ℕ)) (a b : List Entry)
+    → EndsIn bytes bs → ReadsBefore n bytes a b (Ok at_value) bs
     → EndsIn bytes at_value.now
 value_ends nestings.List bytes bs at_value a b h n = subst (EndsIn bytes) (sym n.1) h
-value_ends nestings.Object bytes bs at_value a b h n = subst (EndsIn bytes) n.1 (name_leaves bytes bs (n.0.what, skip at_value.now) h n.0.is_read)
-
-pub no_blank_closing : (n : Nesting) → is_whitespace (nested.closing n) ≡ false
-no_blank_closing nestings.List = refl
-no_blank_closing nestings.Object = refl
+value_ends nestings.Object bytes bs at_value a b h n =
+    subst (EndsIn bytes) n.1 (name_leaves bytes bs (n.0.what, skip at_value.now) h n.0.is_read)
 
 item_shrinks : (n : Nesting) (d : ℕ) → Shrinks (item_at n d)
 item_shrinks nestings.List d = value_at_shrinks d
@@ -87,10 +98,12 @@ abbrev all_of : {A : Type 0} → (A → List JsonValue) → List A → List Json
 all_of f [] = []
 all_of f (x ∷ xs) = f x ++ all_of f xs
 
-all_of-push : {A : Type 0} (f : A → List JsonValue) (xs : List A) (x : A) → all_of f (xs ++ x ∷ []) ≡ all_of f xs ++ f x
+all_of-push : {A : Type 0} (f : A → List JsonValue) (xs : List A) (x : A)
+    → all_of f (xs ++ x ∷ []) ≡ all_of f xs ++ f x
 all_of-push f [] x = append-nil (f x)
 all_of-push f (y ∷ ys) x =
-    ap (λ (us : List JsonValue). f y ++ us) (all_of-push f ys x) ∙ sym (append_assoc (f y) (all_of f ys) (f x))
+    ap (λ (us : List JsonValue). f y ++ us) (all_of-push f ys x)
+    ∙ sym (append_assoc (f y) (all_of f ys) (f x))
 
 all_ones : (vs : List JsonValue) → all_of one vs ≡ vs
 all_ones [] = refl
@@ -100,15 +113,19 @@ paired-members : (ps : List (List ℕ × JsonValue)) → paired (all_of member_a
 paired-members [] = refl
 paired-members (p ∷ ps) = ap (λ (qs : List (List ℕ × JsonValue)). p ∷ qs) (paired-members ps)
 
--- the items read so far, whose entries are there behind that of what they are in, and what is still read
-pub record HasRead (n : Nesting) (d : ℕ) (bytes spelled within : List ℕ) (old now : List Entry) (rest : List ℕ) : Type 0 where
+-- the items read so far, whose entries are there behind that of what they are in, and what is still
+-- read
+pub record HasRead (n : Nesting) (d : ℕ) (bytes spelled within : List ℕ) (old now : List Entry)
+    (rest : List ℕ) : Type 0 where
   read : List (Item n)
   adds : AddsEntries bytes (old ++ entry bytes spelled 0 ∷ []) now (all_of (item_values n) read)
-  so_far : with_front read (items (nested.closing n) (item_at n d) rest) ≡ enclosed (nested.closing n) (item_at n d) (skip within)
+  so_far : with_front read (items (nested.closing n) (item_at n d) rest)
+      ≡ enclosed (nested.closing n) (item_at n d) (skip within)
   pub ends : EndsIn bytes rest
 
 -- all items, whose entries are there
-pub record AllRead (n : Nesting) (d : ℕ) (bytes spelled within : List ℕ) (old now : List Entry) (rest : List ℕ) : Type 0 where
+pub record AllRead (n : Nesting) (d : ℕ) (bytes spelled within : List ℕ) (old now : List Entry)
+    (rest : List ℕ) : Type 0 where
   read : List (Item n)
   adds : AddsEntries bytes (old ++ entry bytes spelled 0 ∷ []) now (all_of (item_values n) read)
   all : enclosed (nested.closing n) (item_at n d) (skip within) ≡ Some (read, skip rest)
@@ -118,31 +135,40 @@ abbrev made : (n : Nesting) → List (Item n) → JsonValue
 made nestings.List vs = list (values vs)
 made nestings.Object ps = object (pairs ps)
 
-value_is : (n : Nesting) (within : List ℕ) (read : List (Item n)) → value_from (opening n ∷ within) (all_of (item_values n) read) ≡ made n read
+value_is : (n : Nesting) (within : List ℕ) (read : List (Item n))
+    → value_from (opening n ∷ within) (all_of (item_values n) read) ≡ made n read
 value_is nestings.List within vs = ap (λ (vs : List JsonValue). list (values vs)) (all_ones vs)
-value_is nestings.Object within ps = ap (λ (ps : List (List ℕ × JsonValue)). object (pairs ps)) (paired-members ps)
+value_is nestings.Object within ps =
+    ap (λ (ps : List (List ℕ × JsonValue)). object (pairs ps)) (paired-members ps)
 
 read_is : (n : Nesting) (d : ℕ) (within : List ℕ) (read : List (Item n)) (rest : List ℕ) → 0 < d
-    → enclosed (nested.closing n) (item_at n (d - 1)) (skip within) ≡ Some (read, rest) → nested_in n d within ≡ Some (made n read, rest)
+    → enclosed (nested.closing n) (item_at n (d - 1)) (skip within) ≡ Some (read, rest)
+    → nested_in n d within ≡ Some (made n read, rest)
 read_is nestings.List d within vs rest less e =
-    list_some d within less (values vs) rest (e ∙ ap (λ (vs : List JsonValue). Some (vs, rest)) (sym (list_of-values vs)))
+    list_some d within less (values vs) rest
+    (e ∙ ap (λ (vs : List JsonValue). Some (vs, rest)) (sym (list_of-values vs)))
 read_is nestings.Object d within ps rest less e =
-    object_some d within less (pairs ps) rest (e ∙ ap (λ (ps : List (List ℕ × JsonValue)). Some (ps, rest)) (sym (pairs_of-pairs ps)))
+    object_some d within less (pairs ps) rest
+    (e ∙ ap (λ (ps : List (List ℕ × JsonValue)). Some (ps, rest)) (sym (pairs_of-pairs ps)))
 
-inside_is : (n : Nesting) (within : List ℕ) (extent : ℕ) → inside_of (opening n ∷ within) extent ≡ extent
+inside_is : (n : Nesting) (within : List ℕ) (extent : ℕ)
+    → inside_of (opening n ∷ within) extent ≡ extent
 inside_is nestings.List within extent = refl
 inside_is nestings.Object within extent = refl
 
-told_is : (n : Nesting) (within : List ℕ) (extent : ℕ) → IsTrue (is_extent (form_from (opening n ∷ within)) (opening n ∷ within) extent)
+told_is : (n : Nesting) (within : List ℕ) (extent : ℕ)
+    → IsTrue (is_extent (form_from (opening n ∷ within)) (opening n ∷ within) extent)
 told_is nestings.List within extent = refl
 told_is nestings.Object within extent = refl
 
 pub fails : (n : Nesting) (d : ℕ) (within : List ℕ) (e : JsonError) → 0 < d
-    → Fails e (enclosed (nested.closing n) (item_at n (d - 1)) (skip within)) → Fails e (nested_in n d within)
+    → Fails e (enclosed (nested.closing n) (item_at n (d - 1)) (skip within))
+    → Fails e (nested_in n d within)
 fails nestings.List d within e less f = list_fails d within less e f
 fails nestings.Object d within e less f = object_fails d within less e f
 
-pub none_in : (n : Nesting) (d : ℕ) (within : List ℕ) → 0 < d → enclosed (nested.closing n) (item_at n (d - 1)) (skip within) ≡ None
+pub none_in : (n : Nesting) (d : ℕ) (within : List ℕ) → 0 < d
+    → enclosed (nested.closing n) (item_at n (d - 1)) (skip within) ≡ None
     → nested_in n d within ≡ None
 none_in nestings.List d within less e = list_none d within less e
 none_in nestings.Object d within less e = object_none d within less e
@@ -152,8 +178,10 @@ too_deep nestings.List d within h = ap (λ (n : Nested). n.0 within) (no_nesting
 too_deep nestings.Object d within h = ap (λ (n : Nested). n.1 within) (no_nesting d h)
 
 module _ (n : Nesting) (d : ℕ) (bytes spelled within : List ℕ) (old : List Entry) where
-  pub begun : (now : List Entry) → EndsIn bytes (skip within) → after_byte (nested.closing n) (skip within) ≡ None
-      → now ≡ old ++ entry bytes spelled 0 ∷ [] → HasRead n d bytes spelled within old now (skip within)
+  pub begun : (now : List Entry) → EndsIn bytes (skip within)
+      → after_byte (nested.closing n) (skip within) ≡ None
+      → now ≡ old ++ entry bytes spelled 0 ∷ []
+      → HasRead n d bytes spelled within old now (skip within)
   begun now h e k = record {
     read = [];
     adds = adds_nothing bytes _ now k;
@@ -161,75 +189,121 @@ module _ (n : Nesting) (d : ℕ) (bytes spelled within : List ℕ) (old : List E
     ends = h;
   }
 
-  added_one : (now next : List Entry) (xs : List (Item n)) (x : Item n) → AddsEntries bytes (old ++ entry bytes spelled 0 ∷ []) now (all_of (item_values n) xs)
-      → AddsEntries bytes now next (item_values n x) → AddsEntries bytes (old ++ entry bytes spelled 0 ∷ []) next (all_of (item_values n) (xs ++ x ∷ []))
+  added_one : (now next : List Entry) (xs : List (Item n)) (x : Item n)
+      → AddsEntries bytes (old ++ entry bytes spelled 0 ∷ []) now (all_of (item_values n) xs)
+      → AddsEntries bytes now next (item_values n x)
+      → AddsEntries bytes (old ++ entry bytes spelled 0 ∷ []) next
+      (all_of (item_values n) (xs ++ x ∷ []))
   added_one now next xs x h k =
-      subst (AddsEntries bytes (old ++ entry bytes spelled 0 ∷ []) next) (sym (all_of-push (item_values n) xs x))
+      subst (AddsEntries bytes (old ++ entry bytes spelled 0 ∷ []) next)
+      (sym (all_of-push (item_values n) xs x))
       (adds_then bytes _ now next (all_of (item_values n) xs) (item_values n x) h k)
 
-  pub going : (now next : List Entry) (rest after more : List ℕ) → HasRead n d bytes spelled within old now rest
-      → IsReadInto (item_values n) bytes now next after (item_at n d rest) → separator more ≡ behind_item (nested.closing n) (skip after)
+  pub going : (now next : List Entry) (rest after more : List ℕ)
+      → HasRead n d bytes spelled within old now rest
+      → IsReadInto (item_values n) bytes now next after (item_at n d rest)
+      → separator more ≡ behind_item (nested.closing n) (skip after)
       → HasRead n d bytes spelled within old next more
   going now next rest after more h t k = record {
     read = h.read ++ t.what ∷ [];
     adds = added_one now next h.read t.what h.adds t.adds;
-    so_far = goes_on (nested.closing n) (item_at n d) (item_shrinks n d) h.read rest (skip after) more t.what _ t.is_read k h.so_far;
-    ends = ends_more bytes (skip after) more (nested.closing n) _ refl (item_leaves n d bytes rest (t.what, skip after) h.ends t.is_read) k;
+    so_far =
+        goes_on (nested.closing n) (item_at n d) (item_shrinks n d) h.read rest (skip after) more
+        t.what _ t.is_read k h.so_far;
+    ends =
+        ends_more bytes (skip after) more (nested.closing n) _ refl
+        (item_leaves n d bytes rest (t.what, skip after) h.ends t.is_read) k;
   }
 
-  pub smaller : (now next : List Entry) (rest after more : List ℕ) → IsReadInto (item_values n) bytes now next after (item_at n d rest)
+  pub smaller : (now next : List Entry) (rest after more : List ℕ)
+      → IsReadInto (item_values n) bytes now next after (item_at n d rest)
       → separator more ≡ behind_item (nested.closing n) (skip after) → length more < length rest
-  smaller now next rest after more t k = falls (nested.closing n) (item_at n d) (item_shrinks n d) rest (skip after) more t.what t.is_read k
+  smaller now next rest after more t k =
+      falls (nested.closing n) (item_at n d) (item_shrinks n d) rest (skip after) more t.what
+      t.is_read k
 
-  pub done : (now next : List Entry) (rest after more : List ℕ) → HasRead n d bytes spelled within old now rest
-      → IsReadInto (item_values n) bytes now next after (item_at n d rest) → closing (skip more) ≡ behind_item (nested.closing n) (skip after)
+  pub done : (now next : List Entry) (rest after more : List ℕ)
+      → HasRead n d bytes spelled within old now rest
+      → IsReadInto (item_values n) bytes now next after (item_at n d rest)
+      → closing (skip more) ≡ behind_item (nested.closing n) (skip after)
       → AllRead n d bytes spelled within old next more
   done now next rest after more h t k = record {
     read = h.read ++ t.what ∷ [];
     adds = added_one now next h.read t.what h.adds t.adds;
-    all = closes (nested.closing n) (item_at n d) (item_shrinks n d) h.read rest (skip after) (skip more) t.what _ t.is_read k h.so_far;
+    all =
+        closes (nested.closing n) (item_at n d) (item_shrinks n d) h.read rest (skip after)
+        (skip more) t.what _ t.is_read k h.so_far;
   }
 
-  pub stopped : (now next : List Entry) (rest after : List ℕ) → HasRead n d bytes spelled within old now rest
-      → IsReadInto (item_values n) bytes now next after (item_at n d rest) → neither ≡ behind_item (nested.closing n) (skip after)
+  pub stopped : (now next : List Entry) (rest after : List ℕ)
+      → HasRead n d bytes spelled within old now rest
+      → IsReadInto (item_values n) bytes now next after (item_at n d rest)
+      → neither ≡ behind_item (nested.closing n) (skip after)
       → enclosed (nested.closing n) (item_at n d) (skip within) ≡ None
-  stopped now next rest after h t k = stops (nested.closing n) (item_at n d) (item_shrinks n d) h.read rest (skip after) t.what _ t.is_read k h.so_far
+  stopped now next rest after h t k =
+      stops (nested.closing n) (item_at n d) (item_shrinks n d) h.read rest (skip after) t.what _
+      t.is_read k h.so_far
 
-  pub failed : (e : JsonError) (now : List Entry) (rest : List ℕ) → HasRead n d bytes spelled within old now rest → Fails e (item_at n d rest)
+  pub failed : (e : JsonError) (now : List Entry) (rest : List ℕ)
+      → HasRead n d bytes spelled within old now rest → Fails e (item_at n d rest)
       → Fails e (enclosed (nested.closing n) (item_at n d) (skip within))
-  failed e now rest h k = ends (nested.closing n) (item_at n d) (item_shrinks n d) e h.read rest _ k h.so_far
+  failed e now rest h k =
+      ends (nested.closing n) (item_at n d) (item_shrinks n d) e h.read rest _ k h.so_far
 
   -- the entry of the whole stands before theirs
-  pub behind_place : (now : List Entry) (rest : List ℕ) → AllRead n d bytes spelled within old now rest → length old < length now
+  pub behind_place : (now : List Entry) (rest : List ℕ)
+      → AllRead n d bytes spelled within old now rest → length old < length now
   behind_place now rest a =
-      omega (arith, ap length a.adds.all, length-append (old ++ entry bytes spelled 0 ∷ []) a.adds.added, length-append old (entry bytes spelled 0 ∷ []))
+      omega (
+        arith,
+        ap length a.adds.all,
+        length-append (old ++ entry bytes spelled 0 ∷ [])
+            a.adds.added,
+        length-append old (entry bytes spelled 0 ∷ []),
+      )
 
 -- the whole, from its items
-module _ (n : Nesting) (d : ℕ) (bytes spelled within : List ℕ) (old : List Entry) (less : 0 < d) (ends_in : EndsIn bytes spelled) (opens : spelled ≡ opening n ∷ within) where
-  pub nested_is_read : (now new : List Entry) (place : ℕ) (rest : List ℕ) → place ≡ length old → AllRead n (d - 1) bytes spelled within old now rest
-      → new ≡ set now place (entry bytes spelled (length now - place - 1)) → IsReadInto one bytes old new rest (nested_in n d within)
+module _ (n : Nesting) (d : ℕ) (bytes spelled within : List ℕ) (old : List Entry) (less : 0 < d)
+    (ends_in : EndsIn bytes spelled) (opens : spelled ≡ opening n ∷ within) where
+  pub nested_is_read : (now new : List Entry) (place : ℕ) (rest : List ℕ) → place ≡ length old
+      → AllRead n (d - 1) bytes spelled within old now rest
+      → new ≡ set now place (entry bytes spelled (length now - place - 1))
+      → IsReadInto one bytes old new rest (nested_in n d within)
   nested_is_read now new place rest p a e =
       let is : value_from spelled (all_of (item_values n) a.read) ≡ made n a.read =
-      ap (λ (s : List ℕ). value_from s (all_of (item_values n) a.read)) opens ∙ value_is n within a.read in
+      ap (λ (s : List ℕ). value_from s (all_of (item_values n) a.read)) opens
+      ∙ value_is n within a.read in
       record {
         what = made n a.read;
         is_read = read_is n d within a.read (skip rest) less a.all;
         adds = subst (λ v. AddsEntries bytes old new (v ∷ [])) is
-            (adds_closed bytes spelled place old now new (all_of (item_values n) a.read) ends_in (omega (arith, ap length opens))
+            (adds_closed bytes spelled place old now new (all_of (item_values n) a.read) ends_in
+            (omega (arith, ap length opens))
             (λ k. ap (λ (s : List ℕ). inside_of s k) opens ∙ inside_is n within k)
-            (λ k. subst (λ (s : List ℕ). IsTrue (is_extent (form_from s) s k)) (sym opens) (told_is n within k)) p a.adds e);
+            (λ k. subst (λ (s : List ℕ). IsTrue (is_extent (form_from s) s k)) (sym opens)
+            (told_is n within k)) p a.adds e);
       }
 
-  pub empty_is_read : (new : List Entry) (rest : List ℕ) → after_byte (nested.closing n) (skip within) ≡ Some rest
-      → new ≡ old ++ entry bytes spelled 0 ∷ [] → IsReadInto one bytes old new rest (nested_in n d within)
+  pub empty_is_read : (new : List Entry) (rest : List ℕ)
+      → after_byte (nested.closing n) (skip within) ≡ Some rest
+      → new ≡ old ++ entry bytes spelled 0 ∷ []
+      → IsReadInto one bytes old new rest (nested_in n d within)
   empty_is_read new rest k e =
-      let is : value_from spelled [] ≡ made n [] = ap (λ (s : List ℕ). value_from s []) opens ∙ value_is n within [] in
+      let is : value_from spelled [] ≡ made n [] =
+      ap (λ (s : List ℕ). value_from s []) opens ∙ value_is n within [] in
       record {
         what = made n [];
-        is_read = read_is n d within [] (skip rest) less (empty (nested.closing n) (item_at n (d - 1)) (item_shrinks n (d - 1)) (skip within) rest k);
-        adds = subst (λ v. AddsEntries bytes old new (v ∷ [])) is (adds_leaf bytes spelled 0 old new ends_in (omega (arith, ap length opens))
+        is_read =
+            read_is n d within [] (skip rest) less
+            (empty (nested.closing n) (item_at n (d - 1)) (item_shrinks n (d - 1)) (skip within)
+            rest k);
+        adds =
+            subst (λ v. AddsEntries bytes old new (v ∷ [])) is
+            (adds_leaf bytes spelled 0 old new ends_in (omega (arith, ap length opens))
             (record {
               nothing = ap (λ (s : List ℕ). inside_of s 0) opens ∙ inside_is n within 0;
-              told = subst (λ (s : List ℕ). IsTrue (is_extent (form_from s) s 0)) (sym opens) (told_is n within 0);
+              told =
+                  subst (λ (s : List ℕ). IsTrue (is_extent (form_from s) s 0)) (sym opens)
+                  (told_is n within 0);
             }) e);
       }

@@ -1,20 +1,14 @@
 -- What the entries of a value give, part by part.
-use Rattle.std.proofs.Common.{◌≡◌, ℕ, zero, suc, ◌+◌, ◌-◌, min, ◌≤◌, List, [], ◌∷◌, length, take, drop, Bool, Option, Some, None, refl, sym, subst, ap, ◌∙◌, arith, length-drop}
+use Rattle.std.proofs.Common.{◌≡◌, ℕ, zero, suc, ◌+◌, ◌-◌, min, ◌≤◌, List, [], ◌∷◌, length, take, drop, Option, Some, None, refl, sym, subst, ap, ◌∙◌, arith, length-drop}
 use Rattle.std.proofs.lemmas.List.{length-take}
 use Rattle.std.proofs.Common.{inl, inr}
 use Rattle.std.proofs.lemmas.Bool.Decides.{leb_tells}
-use Rattle.json_decimal.specs.JsonValue.{JsonValue, null, truth, number, words, list, object, list_of-values, pairs_of-pairs}
-use Rattle.std.specs.Str.{IsUtf8, bytes_eq}
+use Rattle.json_decimal.specs.JsonValue.{JsonValue, list_of-values, pairs_of-pairs}
 use Rattle.json_decimal.specs.Scan.{◌>>=◌}
 use Rattle.json_decimal.specs.Numbers.{after_number}
-use Rattle.json_decimal.specs.Strings.{string_at, behind_string, IsPlain, TellsText}
-use Rattle.json_decimal.proofs.Leaves.{Behind, behind_read, none_behind}
-use Rattle.json_decimal.proofs.Formed.{chars_scalar}
-use Rattle.json_decimal.proofs.Runs.{string_at_shrinks}
-use Rattle.json_decimal.proofs.SoundString.{StringRead, string_sound}
 use Rattle.json_decimal.specs.Handles.{split_name}
-use Rattle.json_decimal.specs.Parts.{split_first, form_of, text_of, items_of, members_of}
-use Rattle.json_decimal.specs.Entries.{words_of, read_or_none, text_from, number_from, paired, form_from, value_as, value_from, inside, values_on, values_inside, value_on, spelled_at}
+use Rattle.json_decimal.specs.Parts.{split_first, form_of, items_of, members_of}
+use Rattle.json_decimal.specs.Entries.{words_of, read_or_none, number_from, paired, form_from, value_as, value_from, inside, values_on, values_inside, value_on, spelled_at}
 use Rattle.json_decimal.specs.declared.entry.Entry.{Entry}
 use Rattle.json_decimal.specs.declared.form.JsonForm.{JsonForm}
 use Rattle.json_decimal.specs.declared.form.JsonForm.TheVariants as forms
@@ -24,58 +18,82 @@ values_on-zero bytes [] past = refl
 values_on-zero bytes (e ∷ es) zero = refl
 values_on-zero bytes (e ∷ es) (suc past) = values_on-zero bytes es past
 
-values_on-drop : (bytes : List ℕ) (es : List Entry) (past n : ℕ) → values_on bytes es past n ≡ values_on bytes (drop past es) 0 n
+values_on-drop : (bytes : List ℕ) (es : List Entry) (past n : ℕ)
+    → values_on bytes es past n ≡ values_on bytes (drop past es) 0 n
 values_on-drop bytes [] zero n = refl
 values_on-drop bytes [] (suc past) n = refl
 values_on-drop bytes (e ∷ es) zero n = refl
 values_on-drop bytes (e ∷ es) (suc past) n = values_on-drop bytes es past n
 
-same_behind : (bytes : List ℕ) (xs ys : List Entry) (k i n : ℕ) → n ≤ k → ((p m : ℕ) → p + m ≤ k → values_on bytes xs p m ≡ values_on bytes ys p m) → values_on bytes xs i (n - i) ≡ values_on bytes ys i (n - i)
+same_behind : (bytes : List ℕ) (xs ys : List Entry) (k i n : ℕ) → n ≤ k
+    → ((p m : ℕ) → p + m ≤ k → values_on bytes xs p m ≡ values_on bytes ys p m)
+    → values_on bytes xs i (n - i) ≡ values_on bytes ys i (n - i)
 same_behind bytes xs ys k i n h same = elim (leb_tells i n) [
   | inl l ↦ same i (n - i) (omega (arith, l.1))
   | inr l ↦
       let none : n - i ≡ 0 = omega (arith, l.1) in
-      ap (values_on bytes xs i) none ∙ values_on-zero bytes xs i ∙ sym (values_on-zero bytes ys i) ∙ ap (values_on bytes ys i) (sym none)
+      ap (values_on bytes xs i) none ∙ values_on-zero bytes xs i ∙ sym (values_on-zero bytes ys i)
+      ∙ ap (values_on bytes ys i) (sym none)
 ]
 
 -- entries that are left out, behind those that count
-values_on-take : (bytes : List ℕ) (es : List Entry) (k past n : ℕ) → past + n ≤ k → values_on bytes (take k es) past n ≡ values_on bytes es past n
+values_on-take : (bytes : List ℕ) (es : List Entry) (k past n : ℕ) → past + n ≤ k
+    → values_on bytes (take k es) past n ≡ values_on bytes es past n
 values_on-take bytes [] zero past n h = refl
 values_on-take bytes [] (suc k) past n h = refl
-values_on-take bytes (e ∷ es) zero past n h = let none : n ≡ 0 = omega arith in ap (values_on bytes [] past) none ∙ sym (values_on-zero bytes (e ∷ es) past) ∙ ap (values_on bytes (e ∷ es) past) (sym none)
-values_on-take bytes (e ∷ es) (suc k) (suc past) n h = values_on-take bytes es k past n (omega arith)
+values_on-take bytes (e ∷ es) zero past n h =
+    let none : n ≡ 0 = omega arith in ap (values_on bytes [] past) none
+    ∙ sym (values_on-zero bytes (e ∷ es) past)
+    ∙ ap (values_on bytes (e ∷ es) past) (sym none)
+values_on-take bytes (e ∷ es) (suc k) (suc past) n h =
+    values_on-take bytes es k past n (omega arith)
 values_on-take bytes (e ∷ es) (suc k) zero zero h = refl
 values_on-take bytes (e ∷ es) (suc k) zero (suc n) h =
-    ap (λ (vs : List JsonValue). value_from (drop e.start bytes) vs ∷ values_on bytes (take k es) (inside bytes e) (n - inside bytes e)) (values_on-take bytes es k 0 (min (inside bytes e) n) (omega arith))
-    ∙ ap (λ (vs : List JsonValue). value_from (drop e.start bytes) (values_on bytes es 0 (min (inside bytes e) n)) ∷ vs) (same_behind bytes (take k es) es k (inside bytes e) n (omega arith) (λ p m l. values_on-take bytes es k p m l))
+    ap (λ (vs : List JsonValue). value_from (drop e.start bytes) vs ∷ values_on bytes (take k es)
+    (inside bytes e) (n - inside bytes e))
+    (values_on-take bytes es k 0 (min (inside bytes e) n) (omega arith))
+    ∙ ap (λ (vs : List JsonValue). value_from (drop e.start bytes)
+    (values_on bytes es 0 (min (inside bytes e) n)) ∷ vs)
+    (same_behind bytes (take k es) es k (inside bytes e) n (omega arith)
+    (λ p m l. values_on-take bytes es k p m l))
 
 -- the first of the values that are left, and those behind it
 abbrev Split : List ℕ → List Entry → List Entry → Type 0
-Split bytes left es = Some (value_on bytes es, values_on bytes left 0 (length left)) ≡ split_first (values_on bytes es 0 (length es))
+Split bytes left es =
+    Some (value_on bytes es, values_on bytes left 0 (length left))
+    ≡ split_first (values_on bytes es 0 (length es))
 
-split : (bytes : List ℕ) (rest left : List Entry) (e : Entry) → left ≡ drop (inside bytes e) rest → Split bytes left (e ∷ rest)
+split : (bytes : List ℕ) (rest left : List Entry) (e : Entry) → left ≡ drop (inside bytes e) rest
+    → Split bytes left (e ∷ rest)
 split bytes rest left e k =
-    let counted : length left ≡ length rest - inside bytes e = ap length k ∙ length-drop (inside bytes e) rest in
-    let behind : values_on bytes left 0 (length left) ≡ values_on bytes rest (inside bytes e) (length rest - inside bytes e) =
-    ap (values_on bytes left 0) counted ∙ ap (λ (l : List Entry). values_on bytes l 0 (length rest - inside bytes e)) k ∙ sym (values_on-drop bytes rest (inside bytes e) (length rest - inside bytes e)) in
+    let counted : length left ≡ length rest - inside bytes e =
+    ap length k ∙ length-drop (inside bytes e) rest in
+    let behind : values_on bytes left 0 (length left)
+    ≡ values_on bytes rest (inside bytes e) (length rest - inside bytes e) =
+    ap (values_on bytes left 0) counted
+    ∙ ap (λ (l : List Entry). values_on bytes l 0 (length rest - inside bytes e)) k
+    ∙ sym (values_on-drop bytes rest (inside bytes e) (length rest - inside bytes e)) in
     ap (λ (vs : List JsonValue). Some (value_on bytes (e ∷ rest), vs)) behind
 
-pub next_is : (bytes : List ℕ) (es rest left : List Entry) (e : Entry) → es ≡ e ∷ rest → left ≡ drop (inside bytes e) rest → Some (value_on bytes es, values_on bytes left 0 (length left)) ≡ split_first (values_on bytes es 0 (length es))
+pub next_is : (bytes : List ℕ) (es rest left : List Entry) (e : Entry) → es ≡ e ∷ rest
+    → left ≡ drop (inside bytes e) rest
+    → Some (value_on bytes es, values_on bytes left 0 (length left))
+    ≡ split_first (values_on bytes es 0 (length es))
 next_is bytes es rest left e h k = subst (Split bytes left) (sym h) (split bytes rest left e k)
 
 -- the values inside the first
-pub parts_are : (bytes : List ℕ) (es rest front : List Entry) (e : Entry) → es ≡ e ∷ rest → front ≡ take (inside bytes e) rest → values_on bytes front 0 (length front) ≡ values_inside bytes es
+pub parts_are : (bytes : List ℕ) (es rest front : List Entry) (e : Entry) → es ≡ e ∷ rest
+    → front ≡ take (inside bytes e) rest
+    → values_on bytes front 0 (length front) ≡ values_inside bytes es
 parts_are bytes es rest front e h q =
-    let counted : length front ≡ min (inside bytes e) (length rest) = ap length q ∙ length-take (inside bytes e) rest in
+    let counted : length front ≡ min (inside bytes e) (length rest) =
+    ap length q ∙ length-take (inside bytes e) rest in
     ap (values_on bytes front 0) counted
     ∙ ap (λ (l : List Entry). values_on bytes l 0 (min (inside bytes e) (length rest))) q
-    ∙ values_on-take bytes rest (inside bytes e) 0 (min (inside bytes e) (length rest)) (omega arith)
+    ∙ values_on-take bytes rest (inside bytes e) 0 (min (inside bytes e) (length rest))
+    (omega arith)
     ∙ ap (values_inside bytes) (sym h)
 
-pub no_parts : (bytes : List ℕ) (es : List Entry) → es ≡ [] → [] ≡ values_inside bytes es
-no_parts bytes es h = ap (values_inside bytes) (sym h)
-
--- two values in turn are a member
 pub split_none : {A : Type 0} (xs : List A) → None ≡ split_first xs → xs ≡ []
 split_none [] h = refl
 split_none (x ∷ xs) h = cc
@@ -87,7 +105,8 @@ split_some (z ∷ zs) ys x h =
     sym (ap (λ (p : _ × List _). p.0 ∷ p.1) k)
 
 -- what is no string gives an empty name
-no_words : (f : JsonForm) (bs : List ℕ) (inside : List JsonValue) → (f ≡ forms.Words → ⊥) → words_of (value_as f bs inside) ≡ []
+no_words : (f : JsonForm) (bs : List ℕ) (inside : List JsonValue) → (f ≡ forms.Words → ⊥)
+    → words_of (value_as f bs inside) ≡ []
 no_words forms.Null bs inside h = refl
 no_words forms.True bs inside h = refl
 no_words forms.False bs inside h = refl
@@ -96,40 +115,25 @@ no_words forms.Words bs inside h = absurd (h refl)
 no_words forms.List bs inside h = refl
 no_words forms.Object bs inside h = refl
 
-pub no_name_is : (bytes : List ℕ) (es rest left : List Entry) (e : Entry) (f : JsonForm) → es ≡ e ∷ rest → left ≡ drop (inside bytes e) rest
+pub no_name_is : (bytes : List ℕ) (es rest left : List Entry) (e : Entry) (f : JsonForm)
+    → es ≡ e ∷ rest → left ≡ drop (inside bytes e) rest
     → f ≡ form_from (drop e.start bytes) → (f ≡ forms.Words → ⊥)
-    → Some ([], values_on bytes left 0 (length left)) ≡ split_name (values_on bytes es 0 (length es))
+    → Some ([], values_on bytes left 0 (length left))
+    ≡ split_name (values_on bytes es 0 (length es))
 no_name_is bytes es rest left e f h k is other =
-    let first : values_on bytes es 0 (length es) ≡ value_on bytes es ∷ values_on bytes left 0 (length left) =
-    split_some (values_on bytes es 0 (length es)) (values_on bytes left 0 (length left)) (value_on bytes es) (next_is bytes es rest left e h k) in
+    let first : values_on bytes es 0 (length es)
+    ≡ value_on bytes es ∷ values_on bytes left 0 (length left) =
+    split_some (values_on bytes es 0 (length es)) (values_on bytes left 0 (length left))
+    (value_on bytes es) (next_is bytes es rest left e h k) in
     let none : words_of (value_on bytes es) ≡ [] =
     ap (λ (l : List Entry). words_of (value_on bytes l)) h
-    ∙ no_words (form_from (drop e.start bytes)) (drop e.start bytes) (values_inside bytes (e ∷ rest)) (λ w. other (is ∙ w)) in
-    ap (λ (n : List ℕ). Some (n, values_on bytes left 0 (length left))) (sym none) ∙ ap split_name (sym first)
+    ∙ no_words (form_from (drop e.start bytes)) (drop e.start bytes)
+    (values_inside bytes (e ∷ rest)) (λ w. other (is ∙ w)) in
+    ap (λ (n : List ℕ). Some (n, values_on bytes left 0 (length left))) (sym none)
+    ∙ ap split_name (sym first)
 
-pub no_member : (vs : List JsonValue) → None ≡ split_first vs → None ≡ split_first (paired vs)
-no_member vs h = ap (λ (l : List JsonValue). split_first (paired l)) (sym (split_none vs h))
-
-pub half_member : (vs left : List JsonValue) (n : JsonValue) → Some (n, left) ≡ split_first vs → None ≡ split_first left → None ≡ split_first (paired vs)
-half_member vs left n h k = ap (λ (l : List JsonValue). split_first (paired l)) (sym (split_some vs left n h ∙ ap (λ (l : List JsonValue). n ∷ l) (split_none left k)))
-
-pub one_member : (vs behind left : List JsonValue) (n v : JsonValue) (name : List ℕ) → Some (n, behind) ≡ split_first vs → Some (v, left) ≡ split_first behind → name ≡ words_of n → Some ((name, v), paired left) ≡ split_first (paired vs)
-one_member vs behind left n v name h k e =
-    let is : vs ≡ n ∷ v ∷ left = split_some vs behind n h ∙ ap (λ (l : List JsonValue). n ∷ l) (split_some behind left v k) in
-    ap (λ (m : List ℕ). Some ((m, v), paired left)) e ∙ ap (λ (l : List JsonValue). split_first (paired l)) (sym is)
-
-text_none : (v : JsonValue) → None ≡ text_of v → words_of v ≡ []
-text_none null h = refl
-text_none (truth b) h = refl
-text_none (number s) h = refl
-text_none (words w) h = cc
-text_none (list vs) h = refl
-text_none (object ps) h = refl
-
-pub no_text : (v : JsonValue) → None ≡ text_of v → [] ≡ words_of v
-no_text v h = sym (text_none v h)
-
-form_as : (f : JsonForm) (bs : List ℕ) (inside : List JsonValue) → f ≡ form_of (value_as f bs inside)
+form_as : (f : JsonForm) (bs : List ℕ) (inside : List JsonValue)
+    → f ≡ form_of (value_as f bs inside)
 form_as forms.Null bs inside = refl
 form_as forms.True bs inside = refl
 form_as forms.False bs inside = refl
@@ -139,52 +143,24 @@ form_as forms.List bs inside = refl
 form_as forms.Object bs inside = refl
 
 -- the parts of a list and of an object
-value_is_as : (bytes : List ℕ) (es : List Entry) (f : JsonForm) → f ≡ form_of (value_on bytes es) → value_as f (spelled_at bytes es) (values_inside bytes es) ≡ value_on bytes es
-value_is_as bytes es f h = ap (λ f. value_as f (spelled_at bytes es) (values_inside bytes es)) (h ∙ sym (form_as (form_from (spelled_at bytes es)) (spelled_at bytes es) (values_inside bytes es)))
+value_is_as : (bytes : List ℕ) (es : List Entry) (f : JsonForm) → f ≡ form_of (value_on bytes es)
+    → value_as f (spelled_at bytes es) (values_inside bytes es) ≡ value_on bytes es
+value_is_as bytes es f h =
+    ap (λ f. value_as f (spelled_at bytes es) (values_inside bytes es))
+    (h ∙ sym (form_as (form_from (spelled_at bytes es)) (spelled_at bytes es)
+    (values_inside bytes es)))
 
-pub list_parts : (bytes : List ℕ) (es : List Entry) (parts : List JsonValue) → forms.List ≡ form_of (value_on bytes es) → parts ≡ values_inside bytes es → Some parts ≡ items_of (value_on bytes es)
-list_parts bytes es parts h k = ap Some (k ∙ sym (list_of-values (values_inside bytes es))) ∙ ap items_of (value_is_as bytes es forms.List h)
+pub list_parts : (bytes : List ℕ) (es : List Entry) (parts : List JsonValue)
+    → forms.List ≡ form_of (value_on bytes es) → parts ≡ values_inside bytes es
+    → Some parts ≡ items_of (value_on bytes es)
+list_parts bytes es parts h k =
+    ap Some (k ∙ sym (list_of-values (values_inside bytes es)))
+    ∙ ap items_of (value_is_as bytes es forms.List h)
 
-pub object_parts : (bytes : List ℕ) (es : List Entry) (parts : List JsonValue) → forms.Object ≡ form_of (value_on bytes es) → parts ≡ values_inside bytes es → Some (paired parts) ≡ members_of (value_on bytes es)
+pub object_parts : (bytes : List ℕ) (es : List Entry) (parts : List JsonValue)
+    → forms.Object ≡ form_of (value_on bytes es) → parts ≡ values_inside bytes es
+    → Some (paired parts) ≡ members_of (value_on bytes es)
 object_parts bytes es parts h k =
     ap (λ (vs : List JsonValue). Some (paired vs)) k
     ∙ ap Some (sym (pairs_of-pairs (paired (values_inside bytes es))))
     ∙ ap members_of (value_is_as bytes es forms.Object h)
-
-pub form_is : (bytes : List ℕ) (es : List Entry) (f : JsonForm) → f ≡ form_from (spelled_at bytes es) → f ≡ form_of (value_on bytes es)
-form_is bytes es f h = h ∙ form_as (form_from (spelled_at bytes es)) (spelled_at bytes es) (values_inside bytes es)
-
--- numbers and strings, at the place where they are spelled
-pub number_read : (bs rest : List ℕ) → Some rest ≡ after_number bs → take (length bs - length rest) bs ≡ number_from bs
-number_read bs rest e = ap (λ (r : Option (List ℕ)). read_or_none (r >>= λ rest. let x : List ℕ × List ℕ = (take (length bs - length rest) bs, rest) in Some x)) e
-
-pub no_number : (bs : List ℕ) → None ≡ after_number bs → [] ≡ number_from bs
-no_number bs e = ap (λ (r : Option (List ℕ)). read_or_none (r >>= λ rest. let x : List ℕ × List ℕ = (take (length bs - length rest) bs, rest) in Some x)) e
-
-pub string_text_utf8 : (bs text rest : List ℕ) → string_at bs ≡ Some (text, rest) → IsUtf8 text
-string_text_utf8 bs text rest e =
-    let r : StringRead bs (text, rest) = string_sound bs (text, rest) e in
-    (r.chars, (chars_scalar r.chars r.inside r.are_chars, sym r.stands))
-
-pub plain_utf8 : (bs rest : List ℕ) → IsPlain bs rest → IsUtf8 (take (length bs - (length rest + 1)) bs)
-plain_utf8 bs rest h = string_text_utf8 bs (take (length bs - (length rest + 1)) bs) rest h
-
-pub plain_within : (bs rest : List ℕ) → IsPlain bs rest → length rest + 1 ≤ length bs
-plain_within bs rest h = omega (arith, string_at_shrinks bs (take (length bs - (length rest + 1)) bs, rest) h)
-
-pub plain_text : (bs rest : List ℕ) → IsPlain bs rest → take (length bs - (length rest + 1)) bs ≡ text_from bs
-plain_text bs rest h = ap read_or_none (sym h)
-
-pub whole_text : (bs text rest : List ℕ) → string_at bs ≡ Some (text, rest) → text ≡ text_from bs
-whole_text bs text rest h = ap read_or_none (sym h)
-
-pub no_whole_text : (bs : List ℕ) → string_at bs ≡ None → [] ≡ text_from bs
-no_whole_text bs h = ap read_or_none (sym h)
-
-pub told_text : (bs text rest : List ℕ) (b : Bool) → Some rest ≡ behind_string bs → TellsText bs text b → b ≡ bytes_eq (text_from bs) text
-told_text bs text rest b e tells =
-    let r : Behind bs rest = behind_read bs rest e in
-    tells (r.text, rest) r.read ∙ ap (λ (t : List ℕ). bytes_eq t text) (whole_text bs r.text rest r.read)
-
-pub no_behind_text : (bs : List ℕ) → None ≡ behind_string bs → [] ≡ text_from bs
-no_behind_text bs e = no_whole_text bs (none_behind (string_at bs) e)

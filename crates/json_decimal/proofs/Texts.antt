@@ -12,16 +12,20 @@ use Rattle.json_decimal.proofs.Complete.{value_in_complete}
 use Rattle.json_decimal.proofs.Formed.{json_formed}
 
 module _ {X : Type 0} (view : X → JsonValue) (bs : List ℕ) where
-  pub spelled : (r : Result X JsonError) → Gives view r (value_in bs) → IfOk r (λ x. IsJson bs (view x))
+  pub spelled : (r : Result X JsonError) → Gives view r (value_in bs)
+      → IfOk r (λ x. IsJson bs (view x))
   spelled (Ok x) h = value_in_sound bs (view x) h
   spelled (Err e) h = tt
 
-  pub formed : (r : Result X JsonError) → Gives view r (value_in bs) → IfOk r (λ x. IsWellFormed (view x))
+  pub formed : (r : Result X JsonError) → Gives view r (value_in bs)
+      → IfOk r (λ x. IsWellFormed (view x))
   formed (Ok x) h = json_formed bs (view x) (value_in_sound bs (view x) h)
   formed (Err e) h = tt
 
-  pub no_value : (r : Result X JsonError) → Gives view r (value_in bs) → r ≡ Err errors.NotJson → (v : JsonValue) → IsJson bs v → ⊥
+  pub no_value : (r : Result X JsonError) → Gives view r (value_in bs) → r ≡ Err errors.NotJson
+      → (v : JsonValue) → IsJson bs v → ⊥
   no_value (Ok x) h e v k = cc
-  no_value (Err errors.NotJson) h e v k = let q : None ≡ Some v = sym h ∙ value_in_complete bs v k in cc
+  no_value (Err errors.NotJson) h e v k =
+      let q : None ≡ Some v = sym h ∙ value_in_complete bs v k in cc
   no_value (Err errors.TooLong) h e v k = cc
   no_value (Err errors.OutOfMemory) h e v k = cc

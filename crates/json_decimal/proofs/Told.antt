@@ -22,63 +22,66 @@ second_true false b h = let k : false ≡ true = h in cc
 pub lt_true : (a b : ℕ) → a < b → IsTrue (nat_lt a b)
 lt_true a b h = grind (arith, nat_tests)
 
-pub true_lt : (a b : ℕ) → IsTrue (nat_lt a b) → a < b
-true_lt a b h = grind (arith, nat_tests)
-
 pub le_true : (a b : ℕ) → a ≤ b → IsTrue (nat_le a b)
 le_true a b h = grind (arith, nat_tests)
 
-pub true_le : (a b : ℕ) → IsTrue (nat_le a b) → a ≤ b
-true_le a b h = grind (arith, nat_tests)
-
-pub entries-cons : (bytes : List ℕ) (e : Entry) (es : List Entry) → IsTrue (is_entry bytes e) → AreEntries bytes es → AreEntries bytes (e ∷ es)
+pub entries-cons : (bytes : List ℕ) (e : Entry) (es : List Entry) → IsTrue (is_entry bytes e)
+    → AreEntries bytes es → AreEntries bytes (e ∷ es)
 entries-cons bytes e es h k = both_true (is_entry bytes e) (list_all (is_entry bytes) es) h k
 
-pub entries-first : (bytes : List ℕ) (e : Entry) (es : List Entry) → AreEntries bytes (e ∷ es) → IsTrue (is_entry bytes e)
+pub entries-first : (bytes : List ℕ) (e : Entry) (es : List Entry) → AreEntries bytes (e ∷ es)
+    → IsTrue (is_entry bytes e)
 entries-first bytes e es h = first_true (is_entry bytes e) (list_all (is_entry bytes) es) h
 
-pub entries-rest : (bytes : List ℕ) (e : Entry) (es : List Entry) → AreEntries bytes (e ∷ es) → AreEntries bytes es
+pub entries-rest : (bytes : List ℕ) (e : Entry) (es : List Entry) → AreEntries bytes (e ∷ es)
+    → AreEntries bytes es
 entries-rest bytes e es h = second_true (is_entry bytes e) (list_all (is_entry bytes) es) h
 
-pub entries-append : (bytes : List ℕ) (es fs : List Entry) → AreEntries bytes es → AreEntries bytes fs → AreEntries bytes (es ++ fs)
+pub entries-append : (bytes : List ℕ) (es fs : List Entry) → AreEntries bytes es
+    → AreEntries bytes fs → AreEntries bytes (es ++ fs)
 entries-append bytes [] fs h k = k
-entries-append bytes (e ∷ es) fs h k = entries-cons bytes e (es ++ fs) (entries-first bytes e es h) (entries-append bytes es fs (entries-rest bytes e es h) k)
+entries-append bytes (e ∷ es) fs h k =
+    entries-cons bytes e (es ++ fs) (entries-first bytes e es h)
+    (entries-append bytes es fs (entries-rest bytes e es h) k)
 
-pub entries-drop : (bytes : List ℕ) (n : ℕ) (es : List Entry) → AreEntries bytes es → AreEntries bytes (drop n es)
+pub entries-drop : (bytes : List ℕ) (n : ℕ) (es : List Entry) → AreEntries bytes es
+    → AreEntries bytes (drop n es)
 entries-drop bytes zero [] h = h
 entries-drop bytes zero (e ∷ es) h = h
 entries-drop bytes (suc n) [] h = h
 entries-drop bytes (suc n) (e ∷ es) h = entries-drop bytes n es (entries-rest bytes e es h)
 
-pub entries-take : (bytes : List ℕ) (n : ℕ) (es : List Entry) → AreEntries bytes es → AreEntries bytes (take n es)
+pub entries-take : (bytes : List ℕ) (n : ℕ) (es : List Entry) → AreEntries bytes es
+    → AreEntries bytes (take n es)
 entries-take bytes zero [] h = refl
 entries-take bytes zero (e ∷ es) h = refl
 entries-take bytes (suc n) [] h = h
-entries-take bytes (suc n) (e ∷ es) h = entries-cons bytes e (take n es) (entries-first bytes e es h) (entries-take bytes n es (entries-rest bytes e es h))
+entries-take bytes (suc n) (e ∷ es) h =
+    entries-cons bytes e (take n es) (entries-first bytes e es h)
+    (entries-take bytes n es (entries-rest bytes e es h))
 
--- what goes for entries goes for the first of them, and for any stretch of those behind it
-pub first_is_entry : (bytes : List ℕ) (es rest : List Entry) (e : Entry) → es ≡ e ∷ rest → AreEntries bytes es → IsTrue (is_entry bytes e)
-first_is_entry bytes es rest e h k = entries-first bytes e rest (subst (AreEntries bytes) h k)
+-- what goes for entries goes for any stretch of those behind the first
+pub behind_are_entries : (bytes : List ℕ) (es rest left : List Entry) (e : Entry) (n : ℕ)
+    → es ≡ e ∷ rest → left ≡ drop n rest → AreEntries bytes es → AreEntries bytes left
+behind_are_entries bytes es rest left e n h q k =
+    subst (AreEntries bytes) (sym q) (entries-drop bytes n rest
+    (entries-rest bytes e rest (subst (AreEntries bytes) h k)))
 
-pub behind_are_entries : (bytes : List ℕ) (es rest left : List Entry) (e : Entry) (n : ℕ) → es ≡ e ∷ rest → left ≡ drop n rest → AreEntries bytes es → AreEntries bytes left
-behind_are_entries bytes es rest left e n h q k = subst (AreEntries bytes) (sym q) (entries-drop bytes n rest (entries-rest bytes e rest (subst (AreEntries bytes) h k)))
+pub front_are_entries : (bytes : List ℕ) (es rest front : List Entry) (e : Entry) (n : ℕ)
+    → es ≡ e ∷ rest → front ≡ take n rest → AreEntries bytes es → AreEntries bytes front
+front_are_entries bytes es rest front e n h q k =
+    subst (AreEntries bytes) (sym q) (entries-take bytes n rest
+    (entries-rest bytes e rest (subst (AreEntries bytes) h k)))
 
-pub front_are_entries : (bytes : List ℕ) (es rest front : List Entry) (e : Entry) (n : ℕ) → es ≡ e ∷ rest → front ≡ take n rest → AreEntries bytes es → AreEntries bytes front
-front_are_entries bytes es rest front e n h q k = subst (AreEntries bytes) (sym q) (entries-take bytes n rest (entries-rest bytes e rest (subst (AreEntries bytes) h k)))
-
--- what an entry says
-pub entry_within : (bytes : List ℕ) (e : Entry) → IsTrue (is_entry bytes e) → e.start < length bytes
-entry_within bytes e h = true_lt e.start (length bytes) (first_true (nat_lt e.start (length bytes)) (is_extent (form_from (drop e.start bytes)) (drop e.start bytes) e.extent) h)
-
-pub entry_extent : (bytes : List ℕ) (e : Entry) (f : JsonForm) → IsTrue (is_entry bytes e) → f ≡ form_from (drop e.start bytes) → IsTrue (is_extent f (drop e.start bytes) e.extent)
+-- what an entry says of its extent
+pub entry_extent : (bytes : List ℕ) (e : Entry) (f : JsonForm) → IsTrue (is_entry bytes e)
+    → f ≡ form_from (drop e.start bytes) → IsTrue (is_extent f (drop e.start bytes) e.extent)
 entry_extent bytes e f h k =
     let P : JsonForm → Type 0 = λ f. IsTrue (is_extent f (drop e.start bytes) e.extent) in
-    subst P (sym k) (second_true (nat_lt e.start (length bytes)) (is_extent (form_from (drop e.start bytes)) (drop e.start bytes) e.extent) h)
+    subst P (sym k) (second_true (nat_lt e.start (length bytes))
+    (is_extent (form_from (drop e.start bytes)) (drop e.start bytes) e.extent) h)
 
 form_at : (bs : List ℕ) (i : ℕ) → i < length bs → form_by (get_or bs i 0) ≡ form_from (drop i bs)
 form_at [] i h = absurd (omega arith)
 form_at (b ∷ bs) zero h = refl
 form_at (b ∷ bs) (suc i) h = form_at bs i (omega arith)
-
-pub entry_form : (bytes : List ℕ) (e : Entry) → IsTrue (is_entry bytes e) → form_by (get_or bytes e.start 0) ≡ form_from (drop e.start bytes)
-entry_form bytes e h = form_at bytes e.start (entry_within bytes e h)

@@ -1,6 +1,6 @@
--- What a list of entries over the bytes of a JSON text stands for. An entry says where a value or a name is spelled;
--- the first byte there tells its form, as in the grammar. A list or an object has the entries of all that is inside
--- it right behind its own, and `extent` is their number.
+-- What a list of entries over the bytes of a JSON text stands for. An entry says where a value or a
+-- name is spelled; the first byte there tells its form, as in the grammar. A list or an object has
+-- the entries of all that is inside it right behind its own, and `extent` is their number.
 use Rattle.std.specs.Prelude.{◌<◌, ℕ, zero, suc, ◌-◌, min, List, [], ◌∷◌, ◌==◌, ◌||◌, ◌&&◌, nat_lt, nat_le, length, take, drop, if◌then◌else◌, Bool, true, false, IsTrue, Option, Some, None}
 use Rattle.std.specs.List.{list_all}
 use Rattle.std.specs.Str.{bytes_eq}
@@ -76,7 +76,7 @@ inside_as forms.Object extent = extent
 abbrev pub value_from : List ℕ → List JsonValue → JsonValue
 value_from bs inside = value_as (form_from bs) bs inside
 
--- how many entries stand for what is inside the value that is spelled here, whose entry has this extent
+-- how many entries stand for what is inside the value that is spelled here, by its entry's extent
 abbrev pub inside_of : List ℕ → ℕ → ℕ
 inside_of bs extent = inside_as (form_from bs) extent
 
@@ -107,23 +107,26 @@ values_inside bytes (e ∷ es) = values_on bytes es 0 (min (inside bytes e) (len
 abbrev pub value_on : List ℕ → List Entry → JsonValue
 value_on bytes es = value_from (spelled_at bytes es) (values_inside bytes es)
 
--- whether the extent of an entry is that of the number that is spelled here, or of the string, which is 0 where an
--- escape stands in it
+-- whether the extent of an entry is that of the number that is spelled here, or of the string,
+-- which is 0 where an escape stands in it
 abbrev pub is_extent : JsonForm → List ℕ → ℕ → Bool
 is_extent forms.Null bs extent = true
 is_extent forms.True bs extent = true
 is_extent forms.False bs extent = true
-is_extent forms.Number bs extent = nat_le extent (length bs) && bytes_eq (number_from bs) (take extent bs)
+is_extent forms.Number bs extent =
+    nat_le extent (length bs) && bytes_eq (number_from bs) (take extent bs)
 is_extent forms.Words bs extent =
     extent == 0
-    || (nat_le 2 extent && nat_le extent (length bs) && bytes_eq (text_from (drop 1 bs)) (take (extent - 2) (drop 1 bs)))
+    || (nat_le 2 extent && nat_le extent (length bs)
+    && bytes_eq (text_from (drop 1 bs)) (take (extent - 2) (drop 1 bs)))
 is_extent forms.List bs extent = true
 is_extent forms.Object bs extent = true
 
 -- whether an entry says where among the bytes something is spelled, and how far its spelling goes
 abbrev pub is_entry : List ℕ → Entry → Bool
 is_entry bytes e =
-    nat_lt e.start (length bytes) && is_extent (form_from (drop e.start bytes)) (drop e.start bytes) e.extent
+    nat_lt e.start (length bytes)
+    && is_extent (form_from (drop e.start bytes)) (drop e.start bytes) e.extent
 
 -- all entries do
 abbrev pub AreEntries : List ℕ → List Entry → Type 0

@@ -14,14 +14,18 @@ abbrev pub seen : List (Option JsonRef) → List (Option JsonValue)
 seen values = map (option_map json_of) values
 
 -- the values with that of one member more, at each place whose name is its own
-abbrev pub with_member : List (List ℕ) → List (Option JsonValue) → List ℕ × JsonValue → List (Option JsonValue)
+abbrev pub with_member : List (List ℕ) → List (Option JsonValue) → List ℕ × JsonValue
+    → List (Option JsonValue)
 with_member [] values member = values
 with_member (name ∷ names) [] member = []
 with_member (name ∷ names) (value ∷ values) member =
     (if bytes_eq member.0 name then Some member.1 else value) ∷ with_member names values member
 
--- at the place of each name the value of the last member of that name, and what stood there where no member has it
-abbrev pub lasts : List (List ℕ) → List (Option JsonValue) → List (List ℕ × JsonValue) → List (Option JsonValue)
+-- at the place of each name the value of the last member of that name, and what stood there where
+-- no member has it
+abbrev pub lasts : List (List ℕ) → List (Option JsonValue) → List (List ℕ × JsonValue)
+    → List (Option JsonValue)
 lasts [] values members = values
 lasts (name ∷ names) [] members = []
-lasts (name ∷ names) (value ∷ values) members = later (last_of name members) value ∷ lasts names values members
+lasts (name ∷ names) (value ∷ values) members =
+    later (last_of name members) value ∷ lasts names values members

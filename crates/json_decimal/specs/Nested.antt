@@ -42,7 +42,8 @@ nested_in nestings.List d = (nested_at d).0
 nested_in nestings.Object d = (nested_at d).1
 
 -- what stands before the value of an item: nothing in a list, a name in an object, up to the value
-abbrev pub ReadsBefore : Nesting → List ℕ → List Entry → List Entry → Result (Bor (List ℕ)) JsonError → List ℕ → Type 0
+abbrev pub ReadsBefore : Nesting → List ℕ → List Entry → List Entry
+    → Result (Bor (List ℕ)) JsonError → List ℕ → Type 0
 ReadsBefore nestings.List bytes old new (Ok rest) spelled = (new ≡ old) × (rest.now ≡ spelled)
 ReadsBefore nestings.List bytes old new (Err e) spelled = ⊥
 ReadsBefore nestings.Object bytes old new (Ok rest) spelled =

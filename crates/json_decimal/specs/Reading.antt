@@ -45,14 +45,16 @@ follow more v neither = None
 -- one item or more, each read by p, n at most, and the bracket that closes
 abbrev pub items_within : {A : Type 0} → ℕ → ℕ → Reader A → Reader (List A)
 items_within close zero p bs = None
-items_within close (suc n) p bs = p bs >>= λ x. follow (items_within close n p) x.0 (behind_item close x.1)
+items_within close (suc n) p bs =
+    p bs >>= λ x. follow (items_within close n p) x.0 (behind_item close x.1)
 
 -- any number of them, since no item takes less than a byte
 unfoldable pub items : {A : Type 0} → ℕ → Reader A → Reader (List A)
 items close p bs = items_within close (length bs) p bs
 
 -- none, where the bracket that closes stands, and else some
-abbrev pub none_or : {A : Type 0} → Option (List ℕ) → Option (List A × List ℕ) → Option (List A × List ℕ)
+abbrev pub none_or : {A : Type 0} → Option (List ℕ) → Option (List A × List ℕ)
+    → Option (List A × List ℕ)
 none_or (Some bs) some = Some ([], skip bs)
 none_or None some = some
 
@@ -67,7 +69,8 @@ quoted_at bs = after_byte quotation_mark bs >>= λ bs. string_at bs
 -- a member's name, up to its value
 abbrev pub name_at : Reader (List ℕ)
 name_at bs =
-    after_byte quotation_mark bs >>= λ bs. string_at bs >>= λ x. after_byte colon (skip x.1) >>= λ bs. Some (x.0, skip bs)
+    after_byte quotation_mark bs >>= λ bs. string_at bs >>= λ x. after_byte colon (skip x.1)
+    >>= λ bs. Some (x.0, skip bs)
 
 -- a member
 abbrev pub pair_at : Reader JsonValue → Reader (List ℕ × JsonValue)
@@ -79,7 +82,8 @@ list_at p bs = enclosed right_square_bracket p (skip bs) >>= λ x. Some (list (v
 
 -- an object, the same
 abbrev pub object_at : Reader JsonValue → Reader JsonValue
-object_at p bs = enclosed right_curly_bracket (pair_at p) (skip bs) >>= λ x. Some (object (pairs x.0), x.1)
+object_at p bs =
+    enclosed right_curly_bracket (pair_at p) (skip bs) >>= λ x. Some (object (pairs x.0), x.1)
 
 -- what reads lists and what reads objects
 abbrev pub Nested : Type 0

@@ -20,7 +20,8 @@ pub record IsLeaf (spelled : List ℕ) (extent : ℕ) : Type 0 where
 -- the entries stand for these values, whatever entries come behind them
 abbrev pub Stands : List ℕ → List Entry → List JsonValue → Type 0
 Stands bytes es vs =
-    (more : List Entry) (n : ℕ) → values_on bytes (es ++ more) 0 (length es + n) ≡ vs ++ values_on bytes more 0 n
+    (more : List Entry) (n : ℕ)
+    → values_on bytes (es ++ more) 0 (length es + n) ≡ vs ++ values_on bytes more 0 n
 
 -- to the old entries were added some that stand for these values
 pub record AddsEntries (bytes : List ℕ) (old new : List Entry) (vs : List JsonValue) : Type 0 where
@@ -30,13 +31,15 @@ pub record AddsEntries (bytes : List ℕ) (old new : List Entry) (vs : List Json
   pub entries : AreEntries bytes added
 
 -- what was read, up to white space that is still there, and that the entries for it were added
-pub record IsReadInto {A : Type 0} (values_of : A → List JsonValue) (bytes : List ℕ) (old new : List Entry) (rest : List ℕ) (read : Option (A × List ℕ)) : Type 0 where
+pub record IsReadInto {A : Type 0} (values_of : A → List JsonValue) (bytes : List ℕ)
+    (old new : List Entry) (rest : List ℕ) (read : Option (A × List ℕ)) : Type 0 where
   pub what : A
   pub is_read : read ≡ Some (what, skip rest)
   pub adds : AddsEntries bytes old new (values_of what)
 
 -- What a step returned is what is read, and its entries were added, unless memory ran out.
-abbrev pub ReadsInto : {A : Type 0} → (A → List JsonValue) → List ℕ → List Entry → List Entry → Result (Bor (List ℕ)) JsonError → Option (A × List ℕ) → Type 0
+abbrev pub ReadsInto : {A : Type 0} → (A → List JsonValue) → List ℕ → List Entry → List Entry
+    → Result (Bor (List ℕ)) JsonError → Option (A × List ℕ) → Type 0
 ReadsInto values_of bytes old new (Ok rest) read = IsReadInto values_of bytes old new rest.now read
 ReadsInto values_of bytes old new (Err e) read = Fails e read
 

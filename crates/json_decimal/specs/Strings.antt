@@ -30,11 +30,13 @@ combined high low = 0x10000 + (high - 0xD800) * 0x400 + (low - 0xDC00)
 -- the second unit of a pair, behind the first
 unfoldable pub low_at : ℕ → Reader ℕ
 low_at high bs =
-    after (codes "\\u") bs >>= λ bs. unit_at bs >>= λ low. if is_low low.0 then Some (combined high low.0, low.1) else None
+    after (codes "\\u") bs >>= λ bs. unit_at bs
+    >>= λ low. if is_low low.0 then Some (combined high low.0, low.1) else None
 
 -- one unit that is a character, or the two that make one
 unfoldable pub units_at : Reader ℕ
-units_at bs = unit_at bs >>= λ u. if is_high u.0 then low_at u.0 u.1 else if is_low u.0 then None else Some u
+units_at bs =
+    unit_at bs >>= λ u. if is_high u.0 then low_at u.0 u.1 else if is_low u.0 then None else Some u
 
 -- what stands behind a reverse solidus
 unfoldable pub escape_at : Reader ℕ
@@ -66,18 +68,21 @@ pub data RunEnd : Type 0 where
 
 abbrev pub run_end : List ℕ → RunEnd
 run_end [] = neither
-run_end (b ∷ bs) = if b == quotation_mark then quote bs else if b == reverse_solidus then escape bs else neither
+run_end (b ∷ bs) =
+    if b == quotation_mark then quote bs else if b == reverse_solidus then escape bs else neither
 
 -- a run that the closing quotation mark ends, or an escape and more
 abbrev pub behind_run : Reader (List ℕ) → List ℕ → RunEnd → Option (List ℕ × List ℕ)
 behind_run more run (quote bs) = Some (run, bs)
-behind_run more run (escape bs) = escape_at bs >>= λ x. with_text (run ++ encode_utf8 x.0) (more x.1)
+behind_run more run (escape bs) =
+    escape_at bs >>= λ x. with_text (run ++ encode_utf8 x.0) (more x.1)
 behind_run more run neither = None
 
 -- whole characters that stand for themselves, and what is behind them
 abbrev pub run_by : Reader (List ℕ) → Reader (List ℕ)
 run_by more bs =
-    if is_utf8 (take (plain_len bs) bs) then behind_run more (take (plain_len bs) bs) (run_end (drop (plain_len bs) bs))
+    if is_utf8 (take (plain_len bs) bs)
+    then behind_run more (take (plain_len bs) bs) (run_end (drop (plain_len bs) bs))
     else None
 
 -- a string of n runs at most

@@ -21,7 +21,8 @@ use crate::scan::{
 };
 use std::alloc::Global;
 
-/// Says how much is inside the list or the object that `spelled` begins with, whose entry is at a place.
+/// Says how much is inside the list or the object that `spelled` begins with, whose entry is at a
+/// place.
 fn close(
     entries: &mut Vec<Entry>,
     place: usize,
@@ -53,7 +54,8 @@ fn value<'a>(
 ) -> Result<&'a [u8], JsonError>
     requires few { length bytes.now < 2 ^ 32 }
     requires ends { EndsIn bytes.now spelled.now }
-    ensures { ReadsInto one bytes.now entries.old.items entries.new.items result (value_at depth spelled.now) }
+    ensures { ReadsInto one bytes.now entries.old.items entries.new.items result
+        (value_at depth spelled.now) }
 {
     match spelled {
         [b'"', ..] => quoted(entries, bytes, spelled),
@@ -102,7 +104,8 @@ fn list<'a>(
     requires few { length bytes.now < 2 ^ 32 }
     requires ends { EndsIn bytes.now spelled.now }
     requires opens { spelled.now ≡ left_square_bracket ∷ inside.now }
-    ensures { ReadsInto one bytes.now entries.old.items entries.new.items result ((nested_at depth).0 inside.now) }
+    ensures { ReadsInto one bytes.now entries.old.items entries.new.items result
+        ((nested_at depth).0 inside.now) }
 {
     nested(entries, bytes, depth, spelled, inside, Nesting::List)
 }
@@ -120,7 +123,8 @@ fn object<'a>(
     requires few { length bytes.now < 2 ^ 32 }
     requires ends { EndsIn bytes.now spelled.now }
     requires opens { spelled.now ≡ left_curly_bracket ∷ inside.now }
-    ensures { ReadsInto one bytes.now entries.old.items entries.new.items result ((nested_at depth).1 inside.now) }
+    ensures { ReadsInto one bytes.now entries.old.items entries.new.items result
+        ((nested_at depth).1 inside.now) }
 {
     nested(entries, bytes, depth, spelled, inside, Nesting::Object)
 }
@@ -211,7 +215,8 @@ fn name<'a>(
 ) -> Result<&'a [u8], JsonError>
     requires few { length bytes.now < 2 ^ 32 }
     requires ends { EndsIn bytes.now spelled.now }
-    ensures { ReadsInto name_alone bytes.now entries.old.items entries.new.items result (name_at spelled.now) }
+    ensures { ReadsInto name_alone bytes.now entries.old.items entries.new.items result
+        (name_at spelled.now) }
 {
     let rest = quoted(entries, bytes, spelled)?;
     past_next_byte(b':', rest)
@@ -220,7 +225,8 @@ fn name<'a>(
 /// The entries of a JSON text.
 #[tactic(auto, unfolding(crate::specs::Reading::value_in))]
 pub fn entries_of(alloc: Global, bytes: &[u8]) -> Result<Vec<Entry>, JsonError>
-    ensures exact { Gives (λ entries. value_on bytes.now entries.items) result (value_in bytes.now) }
+    ensures exact { Gives (λ entries. value_on bytes.now entries.items) result
+        (value_in bytes.now) }
     ensures told { IfOk result (λ entries. AreTextEntries bytes.now entries.items) }
     ensures too_long { (result ≡ Err JsonError.TooLong) ↔ (max_length < length bytes.now) }
 {

@@ -1,6 +1,8 @@
 //! Entries: where values and names are spelled.
-ghost use Rattle.std.specs.Prelude.{◌≡◌, ◌≤◌, ◌<◌, ◌-◌, ◌^◌, length, drop, IsTrue};
-ghost use Rattle.json_decimal.specs.Entries.{form_by, form_from, inside, is_entry};
+ghost use Rattle.std.specs.Prelude.{◌≡◌, ◌≤◌, ◌<◌, ◌-◌, ◌^◌, List, length, drop, option_map, IsTrue};
+ghost use Rattle.json_decimal.specs.Entries.{form_from, inside, is_entry, value_from};
+ghost use Rattle.json_decimal.specs.JsonValue.{JsonValue};
+ghost use Rattle.json_decimal.specs.Parts.{number_of};
 
 use crate::form::{JsonForm, form_by, inside_as};
 
@@ -9,9 +11,9 @@ use crate::form::{JsonForm, form_by, inside_as};
 pub struct Entry {
     /// The place of its first byte, which tells its form.
     pub start: u32,
-    /// Of a list or an object, the number of entries for what is inside it, which stand right behind this one.
-    /// Of a number, `null`, `true`, `false` and a string without escapes, how many bytes spell it. Of a string
-    /// with escapes 0.
+    /// Of a list or an object, the number of entries for what is inside it, which stand right
+    /// behind this one. Of a number, `null`, `true`, `false` and a string without escapes, how many
+    /// bytes spell it. Of a string with escapes 0.
     pub extent: u32,
 }
 
@@ -55,6 +57,23 @@ impl Entry {
         ensures { result ≡ inside bytes.now self }
     {
         inside_as(self.form(bytes), self.extent)
+    }
+
+    /// The spelling of the number there, if it is one.
+    #[inline(always)]
+    pub fn number(self, bytes: &[u8]) -> Option<&str>
+        requires { IsTrue (is_entry bytes.now self) }
+        ensures { (inside : List JsonValue) → option_map (λ spelling. spelling.now) result
+            ≡ number_of (value_from (drop self.start bytes.now) inside) }
+    {
+        match self.form(bytes) {
+            JsonForm::Number => {
+                let spelling = &self.spelled(bytes)[..self.extent as usize];
+                // A number is in ASCII.
+                Some(unsafe { str::from_utf8_unchecked(spelling) })
+            }
+            _ => None,
+        }
     }
 
     /// The entries that stand behind all that is inside it, of those behind this one.

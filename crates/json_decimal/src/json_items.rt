@@ -18,16 +18,39 @@ pub struct JsonItems<'a> {
 }
 
 impl<'a> JsonItems<'a> {
-    ghost use Rattle.std.specs.Prelude.{◌≡◌, [], option_map, IfNone};
+    ghost use Rattle.std.specs.Prelude.{◌≡◌, [], length, option_map, IfNone};
     ghost use Rattle.json_decimal.specs.Handles.{json_of, text_in, items_left, split_name};
-    ghost use Rattle.json_decimal.specs.Parts.{split_first};
+    ghost use Rattle.json_decimal.specs.Named.{plain};
+    ghost use Rattle.json_decimal.specs.Parts.{numbers_of, split_first};
 
     /// The next value, which is then no longer left.
     #[inline(always)]
     pub fn next(&mut self) -> Option<JsonRef<'a>>
-        ensures { option_map (λ r. (json_of r, items_left self.new)) result ≡ split_first (items_left self.old) }
+        ensures { option_map (λ r. (json_of r, items_left self.new)) result
+            ≡ split_first (items_left self.old) }
     {
         self.take_next()
+    }
+
+    /// Puts the spellings of the numbers that are left into these places, in order, if each value
+    /// is a number and there are as many of them as places. Otherwise it is None, and any may stand
+    /// there.
+    #[inline]
+    pub fn numbers_into(self, numbers: &mut [&'a str]) -> Option<()>
+        ensures { option_map (λ _. plain numbers.new) result
+            ≡ numbers_of (length numbers.old) (items_left self.entry) }
+    {
+        // A number has no entry but its own.
+        if self.entries.len() != numbers.len() {
+            return None;
+        }
+        for i in 0..numbers.len() {
+            let Some(spelling) = self.entries[i].number(self.bytes) else {
+                return None;
+            };
+            numbers[i] = spelling;
+        }
+        Some(())
     }
 
     /// The next value, as `next` gives it. At the end nothing is left behind.

@@ -26,14 +26,16 @@ impl<'a> JsonMembers<'a> {
         self.take_next()
     }
 
-    /// Puts values at the places of their names: at each the value of the last member of that name that is left.
-    /// Where no member has the name, what stood there stays. It takes no memory.
+    /// Puts values at the places of their names: at each the value of the last member of that name
+    /// that is left. Where no member has the name, what stood there stays. It takes no memory.
     pub fn last_named(self, names: &[&str], values: &mut [Option<JsonRef<'a>>])
         requires places { length values.old ≡ length names.now }
-        ensures values { seen values.new ≡ lasts (plain names.now) (seen values.old) (members_left self.entry) }
+        ensures values { seen values.new
+            ≡ lasts (plain names.now) (seen values.old) (members_left self.entry) }
         // What that is where nothing stood there.
         ensures fresh { seen values.old ≡ map (λ _. None) (plain names.now)
-            → seen values.new ≡ map (λ name. last_of name (members_left self.entry)) (plain names.now) }
+            → seen values.new
+            ≡ map (λ name. last_of name (members_left self.entry)) (plain names.now) }
     {
         let mut rest = self;
         while let Some((name, value)) = rest.next() {
@@ -79,8 +81,8 @@ fn put<'a>(
     value: JsonRef<'a>,
 )
     requires places { length values.old ≡ length names.now }
-    ensures { seen values.new
-        ≡ with_member (plain names.now) (seen values.old) (text_in name.entry, json_of value.entry) }
+    ensures { seen values.new ≡ with_member (plain names.now) (seen values.old)
+        (text_in name.entry, json_of value.entry) }
 {
     for i in 0..names.len() {
         if name.is(names[i]) {

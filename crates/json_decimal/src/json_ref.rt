@@ -65,15 +65,7 @@ impl<'a> JsonRef<'a> {
     pub fn number(self) -> Option<&'a str>
         ensures { option_map (λ spelling. spelling.now) result ≡ number_of (json_of self.entry) }
     {
-        let entry = self.entry();
-        match entry.form(self.bytes) {
-            JsonForm::Number => {
-                let spelling = &entry.spelled(self.bytes)[..entry.extent as usize];
-                // A number is in ASCII.
-                Some(unsafe { str::from_utf8_unchecked(spelling) })
-            }
-            _ => None,
-        }
+        self.entry().number(self.bytes)
     }
 
     /// The text, if it is a string.

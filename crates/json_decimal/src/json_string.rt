@@ -24,8 +24,8 @@ pub struct EscapedString<'a> {
 }
 
 impl<'a> JsonString<'a> {
-    /// The string that is spelled here, of `extent` bytes with its quotation marks, or with escapes where that
-    /// is 0.
+    /// The string that is spelled here, of `extent` bytes with its quotation marks, or with escapes
+    /// where that is 0.
     #[inline(always)]
     pub(crate) fn spelled(spelled: &'a [u8], extent: usize) -> JsonString<'a>
         requires some { 0 < length spelled.now }

@@ -14,8 +14,8 @@ use crate::json_ref::JsonRef;
 use std::alloc::Global;
 use std::marker::Model;
 
-/// A JSON text that was read (RFC 8259), which contracts see as its value. It stands over its bytes, which the
-/// caller keeps, and holds eight bytes for each value and each name of a member.
+/// A JSON text that was read (RFC 8259), which contracts see as its value. It stands over its
+/// bytes, which the caller keeps, and holds eight bytes for each value and each name of a member.
 #[derive(Debug, Drop)]
 pub struct JsonText<'a> {
     bytes: &'a [u8],
@@ -38,16 +38,18 @@ impl<'a> Model for JsonText<'a> {
 }
 
 impl<'a> JsonText<'a> {
-    /// Reads a JSON text, which may nest 256 deep, may have 2^32 - 1 bytes and may begin with a byte-order mark.
-    /// It takes memory for the entries alone.
+    /// Reads a JSON text, which may nest 256 deep, may have 2^32 - 1 bytes and may begin with a
+    /// byte-order mark. It takes memory for the entries alone.
     pub fn read(alloc: Global, bytes: &'a [u8]) -> Result<JsonText<'a>, JsonError>
         // It is the value that the bytes spell.
         ensures value { IfOk result (λ text. IsJson bytes.now text) }
         // Each text and each name in it is UTF-8, and each number is spelled as one.
         ensures well_formed { IfOk result (λ text. IsWellFormed text) }
         // It is no JSON text only where the bytes spell no value.
-        ensures refused { result ≡ Err JsonError.NotJson → (v : JsonValue) → IsJson bytes.now v → ⊥ }
-        // It is too long exactly where it has more bytes than it may have, whatever memory there is.
+        ensures refused { result ≡ Err JsonError.NotJson
+            → (v : JsonValue) → IsJson bytes.now v → ⊥ }
+        // It is too long exactly where it has more bytes than it may have, whatever memory there
+        // is.
         ensures too_long { (result ≡ Err JsonError.TooLong) ↔ (max_length < length bytes.now) }
         // Which value it is, and whether there is one, as a function.
         ensures exact { Gives (λ text. text) result (value_in bytes.now) }

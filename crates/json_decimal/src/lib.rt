@@ -6,6 +6,7 @@ mod building;
 mod entries;
 mod entry;
 mod error;
+mod escapes;
 mod form;
 mod json;
 mod json_items;

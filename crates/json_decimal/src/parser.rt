@@ -26,8 +26,8 @@ fn read(alloc: Global, bytes: &[u8]) -> Result<Json, JsonError>
     Ok(root.to_json(alloc)?)
 }
 
-/// The value of a JSON text (RFC 8259), which may nest 256 deep, may have 2^32 - 1 bytes and may begin with a
-/// byte-order mark.
+/// The value of a JSON text (RFC 8259), which may nest 256 deep, may have 2^32 - 1 bytes and may
+/// begin with a byte-order mark.
 pub fn parse(alloc: Global, bytes: &[u8]) -> Result<Json, JsonError>
     // It is the value that the bytes spell.
     ensures value { IfOk result (λ json. IsJson bytes.now (value_of json)) }

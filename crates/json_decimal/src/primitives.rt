@@ -1,4 +1,5 @@
-//! Reading values of the primitive types into entries (RFC 8259, section 1): strings, numbers, booleans and null.
+//! Reading values of the primitive types into entries (RFC 8259, section 1): strings, numbers,
+//! booleans and null.
 ghost use Rattle.std.specs.Prelude.{◌≡◌, ◌≤◌, ◌<◌, ◌-◌, ◌^◌, ◌++◌, ◌∷◌, [], ℕ, true, false, OnOk, IfErr, length};
 ghost use Rattle.json_decimal.specs.Entries.{form_from, value_from};
 ghost use Rattle.json_decimal.specs.JsonValue.{number, words};

@@ -19,7 +19,8 @@ fn minus_len(bytes: &[u8]) -> usize
     }
 }
 
-/// Where the digits from a place on end, or the end of the first block, if they don't end before it.
+/// Where the digits from a place on end, or the end of the first block, if they don't end before
+/// it.
 #[inline(always)]
 fn digits_end(bytes: &[u8], others: u64, from: usize) -> usize
     requires block { 16 ≤ length bytes.now }
@@ -32,7 +33,8 @@ fn digits_end(bytes: &[u8], others: u64, from: usize) -> usize
     from + (others >> from).trailing_zeros() as usize
 }
 
-/// Whether digits are those before a fraction: there are some, and more than one don't begin with a zero.
+/// Whether digits are those before a fraction: there are some, and more than one don't begin with a
+/// zero.
 #[inline(always)]
 fn are_int(bytes: &[u8], from: usize, end: usize) -> bool
     requires from { from ≤ end }

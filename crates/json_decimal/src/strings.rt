@@ -1,110 +1,17 @@
 //! Steps over the parts of a string.
 ghost use Rattle.std.specs.Prelude.{◌≡◌, ◌<◌, ◌≤◌, true, option_map, IfOk, IfSome, length, encode_utf8, []};
 ghost use Rattle.std.specs.Char.{IsScalar};
-ghost use Rattle.json_decimal.specs.Characters.{hex_digit, short_escape};
 ghost use Rattle.json_decimal.specs.Scan.{Tells, after};
-ghost use Rattle.json_decimal.specs.Strings.{unit_at, low_at, units_at, escape_at};
 ghost use Rattle.json_decimal.specs.Strings.{plain_len, run_end, string_at, behind_string, IsPlainAscii, IsPlain};
 ghost use Rattle.json_decimal.specs.Strings.{TellsText};
 ghost use Rattle.json_decimal.specs.Seen.{run_end_view};
 
 use crate::blocks::{BLOCK, plain_ascii_len};
 use crate::error::JsonError;
+use crate::escapes::escape;
 use crate::scan::after_word;
 use std::alloc::{AllocError, Global};
 use tile_types::Text;
-
-fn hex_value(byte: u8) -> Option<u32>
-    ensures value { result ≡ hex_digit byte }
-    ensures small { IfSome result (λ d. d < 16) }
-{
-    match byte {
-        b'0'..=b'9' => Some(u32::from(byte - b'0')),
-        b'A'..=b'F' => Some(10 + u32::from(byte - b'A')),
-        b'a'..=b'f' => Some(10 + u32::from(byte - b'a')),
-        _ => None,
-    }
-}
-
-/// The number that four hexadecimal digits stand for.
-fn unit(bytes: &[u8]) -> Option<(u32, &[u8])>
-    ensures value { option_map (λ x. (x.0, x.1.now)) result ≡ unit_at bytes.now }
-    ensures small { IfSome result (λ x. x.0 < 0x10000) }
-{
-    match bytes {
-        [i, j, k, l, rest @ ..] => {
-            let a = hex_value(*i)?;
-            let b = hex_value(*j)?;
-            let c = hex_value(*k)?;
-            let d = hex_value(*l)?;
-            Some((16 * (16 * (16 * a + b) + c) + d, rest))
-        }
-        _ => None,
-    }
-}
-
-/// The character of a pair of units, from behind the first.
-#[tactic(auto, unfolding(crate::specs::Strings::low_at))]
-fn low(high: u32, bytes: &[u8]) -> Option<(u32, &[u8])>
-    requires above { 0xD800 ≤ high }
-    requires below { high < 0xDC00 }
-    ensures value { option_map (λ x. (x.0, x.1.now)) result ≡ low_at high bytes.now }
-    ensures scalar { IfSome result (λ x. IsScalar x.0) }
-{
-    let rest = after_word(b"\\u", bytes)?;
-    let (low, rest) = unit(rest)?;
-    if low < 0xDC00 || 0xE000 <= low {
-        return None;
-    }
-    Some((0x10000 + (high - 0xD800) * 0x400 + (low - 0xDC00), rest))
-}
-
-/// The character that one unit is, or that two units make.
-#[tactic(auto, unfolding(crate::specs::Strings::units_at))]
-fn units(bytes: &[u8]) -> Option<(u32, &[u8])>
-    ensures value { option_map (λ x. (x.0, x.1.now)) result ≡ units_at bytes.now }
-    ensures scalar { IfSome result (λ x. IsScalar x.0) }
-{
-    let (unit, rest) = unit(bytes)?;
-    if 0xD800 <= unit && unit < 0xDC00 {
-        return low(unit, rest);
-    }
-    if 0xDC00 <= unit && unit < 0xE000 {
-        return None;
-    }
-    Some((unit, rest))
-}
-
-fn short(byte: u8) -> Option<u32>
-    ensures value { result ≡ short_escape byte }
-    ensures small { IfSome result (λ c. c < 128) }
-{
-    match byte {
-        b'"' | b'\\' | b'/' => Some(u32::from(byte)),
-        b'b' => Some(0x08),
-        b'f' => Some(0x0C),
-        b'n' => Some(u32::from(b'\n')),
-        b'r' => Some(u32::from(b'\r')),
-        b't' => Some(u32::from(b'\t')),
-        _ => None,
-    }
-}
-
-/// The character of an escape, from behind its reverse solidus.
-#[tactic(auto, unfolding(crate::specs::Strings::escape_at))]
-fn escape(bytes: &[u8]) -> Option<(u32, &[u8])>
-    ensures value { option_map (λ x. (x.0, x.1.now)) result ≡ escape_at bytes.now }
-    ensures scalar { IfSome result (λ x. IsScalar x.0) }
-{
-    match bytes {
-        [b'u', rest @ ..] => units(rest),
-        [byte, rest @ ..] => {
-            let character = short(*byte)?;
-            Some((character, rest))
-        }
-        [] => None,
-    }
-}
 
 /// How many bytes stand for themselves, up to the first that does not.
 fn plain_len(bytes: &[u8]) -> usize
@@ -140,8 +47,8 @@ fn end_of_run(bytes: &[u8]) -> RunEnd<'_>
     }
 }
 
-/// The length of a string in ASCII with no escape that ends within a block, from behind its opening quotation
-/// mark.
+/// The length of a string in ASCII with no escape that ends within a block, from behind its opening
+/// quotation mark.
 #[inline(always)]
 pub fn short_string_len(bytes: &[u8]) -> Option<usize>
     ensures { IfSome result (IsPlainAscii bytes.now) }
@@ -176,8 +83,8 @@ fn plain_ascii_string_len(bytes: &[u8]) -> Option<usize>
     None
 }
 
-/// The text of a string, from behind its opening quotation mark (RFC 8259, section 7), or None where none stands
-/// here.
+/// The text of a string, from behind its opening quotation mark (RFC 8259, section 7), or None
+/// where none stands here.
 pub fn text_at(alloc: Global, bytes: &[u8]) -> Result<Option<Text>, AllocError>
     ensures { IfOk result (λ text. text ≡ option_map (λ x. x.0) (string_at bytes.now)) }
 {
@@ -206,8 +113,8 @@ pub fn text_at(alloc: Global, bytes: &[u8]) -> Result<Option<Text>, AllocError>
     }
 }
 
-/// Whether a string stands for itself, with no escape, and the bytes behind it, from behind its opening quotation
-/// mark.
+/// Whether a string stands for itself, with no escape, and the bytes behind it, from behind its
+/// opening quotation mark.
 #[inline(never)]
 pub fn string_end(bytes: &[u8]) -> Option<(bool, &[u8])>
     ensures behind { option_map (λ x. x.1.now) result ≡ behind_string bytes.now }
@@ -274,7 +181,8 @@ fn has_none(bytes: &[u8]) -> bool
     matches!(bytes, [])
 }
 
-/// Whether a string has these bytes as its text, from behind its opening quotation mark. It takes no memory.
+/// Whether a string has these bytes as its text, from behind its opening quotation mark. It takes
+/// no memory.
 pub fn has_text(bytes: &[u8], text: &[u8]) -> bool
     ensures { TellsText bytes.now text.now result }
 {

@@ -8,8 +8,11 @@ use Rattle.json_decimal.proofs.blocks.others.Goals as goal
 
 pub overflow_add-result : goal.overflow_add-result
 overflow_add-result c =
-    let long : length (map is_other c.args.block.now) ≡ 16 = length-map c.args.block.now is_other ∙ c.told-block in
-    let below : mask_l (map is_other c.args.block.now) < 2 ^ 16 = subst (λ k. mask_l (map is_other c.args.block.now) < 2 ^ k) long (mask_l-lt (map is_other c.args.block.now)) in
+    let long : length (map is_other c.args.block.now) ≡ 16 =
+    length-map c.args.block.now is_other ∙ c.told-block in
+    let below : mask_l (map is_other c.args.block.now) < 2 ^ 16 =
+    subst (λ k. mask_l (map is_other c.args.block.now) < 2 ^ k) long
+    (mask_l-lt (map is_other c.args.block.now)) in
     omega (arith, c.others_within.ensures, below)
 
 pub returns : goal.returns

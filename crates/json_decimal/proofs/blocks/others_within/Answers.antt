@@ -9,4 +9,5 @@ returns c =
     let v = c.args.bytes in
     let long = c.fits-bytes.0 in
     masked is_other v (omega arith)
-    (either (λ b. ltb b digit_zero) (λ b. leb 0x3A b) v (below v 16 digit_zero long) (at_least v 16 0x3A long))
+    (either (λ b. ltb b digit_zero) (λ b. leb 0x3A b) v (below v 16 digit_zero long)
+    (at_least v 16 0x3A long))

@@ -21,7 +21,9 @@ abbrev pub decreases-item : goal.decreases-item
 decreases-item l = 5 * l.depth + 4
 
 abbrev pub invariant-nested-loop-after : goal.invariant-nested-loop-after
-invariant-nested-loop-after l = HasRead l.nesting (l.depth - 1) l.bytes l.spelled l.inside l.fn.entries.items l.entries.items l.rest
+invariant-nested-loop-after l =
+    HasRead l.nesting (l.depth - 1) l.bytes l.spelled l.inside l.fn.entries.items l.entries.items
+    l.rest
 
 abbrev pub decreases-nested-loop-after : goal.decreases-nested-loop-after
 decreases-nested-loop-after l = length l.rest
