@@ -24,21 +24,28 @@ texts = map (λ word. word.now)
 abbrev pub root_of : List ℕ → Option (List ℕ)
 root_of word = result_ok (join (codes "http://tiles/") word)
 
+-- a root word, and the command of its address
+abbrev pub Form : Type 0
+Form = List ℕ × (List ℕ → Command)
+
 -- `cut ROOT VIEW`
-abbrev pub cut_of : List (List ℕ) → Option Command
-cut_of (root ∷ view ∷ []) =
-    root_of root >>= λ address. view_of view >>= λ parts. Some (Cut address parts)
-cut_of _ = None
+abbrev pub cut_form : List (List ℕ) → Option Form
+cut_form (root ∷ view ∷ []) = view_of view >>= λ parts. Some (root, λ address. Cut address parts)
+cut_form _ = None
 
 -- `tiles ROOT`
-abbrev pub tiles_of : List (List ℕ) → Option Command
-tiles_of (root ∷ []) = root_of root >>= λ address. Some (Tiles address)
-tiles_of _ = None
+abbrev pub tiles_form : List (List ℕ) → Option Form
+tiles_form (root ∷ []) = Some (root, Tiles)
+tiles_form _ = None
 
--- what the words behind the name of a command ask for
-abbrev pub asked : CommandName × List (List ℕ) → Option Command
-asked (name.Cut, words) = cut_of words
-asked (name.Tiles, words) = tiles_of words
+-- the form of the words behind the name of a command
+abbrev pub form_behind : CommandName × List (List ℕ) → Option Form
+form_behind (name.Cut, words) = cut_form words
+form_behind (name.Tiles, words) = tiles_form words
+
+-- the command of a form, if its root word stands for an address
+abbrev pub command_in : Option Form → Option Command
+command_in form = form >>= λ f. root_of f.0 >>= λ address. Some (f.1 address)
 
 -- ---- the words
 
@@ -66,9 +73,13 @@ named [] = None
 named (word ∷ words) =
     name_of word >>= λ command. without_options words >>= λ behind. Some (command, behind)
 
+-- the form of a command that the words have, if they have one
+abbrev pub form_of : List (List ℕ) → Option Form
+form_of words = named words >>= form_behind
+
 -- the command that the words are, if they are one
 abbrev pub command_of : List (List ℕ) → Option Command
-command_of words = named words >>= asked
+command_of words = command_in (form_of words)
 
 -- ---- answers
 

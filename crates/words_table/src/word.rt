@@ -8,24 +8,20 @@ use crate::error::WordsError;
 use error_test::View;
 use session_script::read_view;
 use std::alloc::Global;
-use tile_types::Text;
-use tile_uri::{Base, UriError};
+use tile_uri::{Address, Base, UriError};
 
 /// What words are resolved below.
 const BASE: &str = "http://tiles/";
 
 /// The address that a root word stands for (URL Standard, section 4.4).
-pub(crate) fn root_of(alloc: Global, word: &str) -> Result<Text, WordsError>
+pub(crate) fn root_of(alloc: Global, word: &str) -> Result<Address, WordsError>
     ensures { Answers result (root_of word.now) }
 {
     let Ok(base) = Base::new(alloc, BASE) else {
         return Err(WordsError::OutOfMemory);
     };
     match base.resolve(alloc, word) {
-        Ok(address) => match address.text().copy(alloc) {
-            Ok(text) => Ok(text),
-            Err(_) => Err(WordsError::OutOfMemory),
-        },
+        Ok(address) => Ok(address),
         Err(error) => Err(cause_of(error)),
     }
 }

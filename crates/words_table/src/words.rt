@@ -1,8 +1,8 @@
 //! The table of commands.
 
 ghost use Rattle.std.specs.Prelude.{IsErrOf, IsNone};
-ghost use Rattle.words_table.specs.Commands.{Answers, HasNoOption, command_of, cut_of};
-ghost use Rattle.words_table.specs.Commands.{named, texts, tiles_of};
+ghost use Rattle.words_table.specs.Commands.{Answers, HasNoOption, command_in, command_of};
+ghost use Rattle.words_table.specs.Commands.{cut_form, form_of, texts, tiles_form};
 
 use crate::command::Command;
 use crate::command_name::{CommandName, split_name};
@@ -18,7 +18,7 @@ pub fn read_words(alloc: Global, words: &[&str]) -> Result<Command, WordsError>
     ensures value { Answers result (command_of (texts words.now)) }
 
     // Whatever memory there is.
-    ensures unnamed { IsNone (named (texts words.now)) → IsErrOf result WordsError.NotACommand }
+    ensures formless { IsNone (form_of (texts words.now)) → IsErrOf result WordsError.NotACommand }
 {
     match split_name(words) {
         Some((CommandName::Cut, behind)) => read_cut(alloc, behind),
@@ -27,17 +27,23 @@ pub fn read_words(alloc: Global, words: &[&str]) -> Result<Command, WordsError>
     }
 }
 
-/// `cut ROOT VIEW`, of the words behind `cut`.
+/// `cut ROOT VIEW`, of the words behind `cut`. That they are two, and that the second is of a view,
+/// is told before any memory is asked for.
 fn read_cut(alloc: Global, words: &[&str]) -> Result<Command, WordsError>
     requires { HasNoOption (texts words.now) }
-    ensures { Answers result (cut_of (texts words.now)) }
+    ensures value { Answers result (command_in (cut_form (texts words.now))) }
+    ensures formless { IsNone (cut_form (texts words.now))
+        → IsErrOf result WordsError.NotACommand }
 {
+    if words.len() != 2 {
+        return Err(WordsError::NotACommand);
+    }
+    let Some(view) = view_of(words[1]) else {
+        return Err(WordsError::NotACommand);
+    };
     let cut = match cut_words(alloc, words) {
         Ok(cut) => cut,
         Err(cause) => return Err(cause),
-    };
-    let Some(view) = view_of(cut.view) else {
-        return Err(WordsError::NotACommand);
     };
     match root_of(alloc, cut.root) {
         Ok(root) => Ok(Command::Cut { root, view }),
@@ -45,11 +51,17 @@ fn read_cut(alloc: Global, words: &[&str]) -> Result<Command, WordsError>
     }
 }
 
-/// `tiles ROOT`, of the words behind `tiles`.
+/// `tiles ROOT`, of the words behind `tiles`. That there is just one is told before any memory is
+/// asked for.
 fn read_tiles(alloc: Global, words: &[&str]) -> Result<Command, WordsError>
     requires { HasNoOption (texts words.now) }
-    ensures { Answers result (tiles_of (texts words.now)) }
+    ensures value { Answers result (command_in (tiles_form (texts words.now))) }
+    ensures formless { IsNone (tiles_form (texts words.now))
+        → IsErrOf result WordsError.NotACommand }
 {
+    if words.len() != 1 {
+        return Err(WordsError::NotACommand);
+    }
     let word = match only_word(alloc, words) {
         Ok(word) => word,
         Err(cause) => return Err(cause),

@@ -1,4 +1,4 @@
-use Rattle.std.proofs.Common.{◌≡◌, ◌≢◌, ◌∙◌, ◌⊎◌, List, ℕ, Ok, Err, Some, codes, refl, sym, ap, inl, inr, subst}
+use Rattle.std.proofs.Common.{◌≡◌, ◌≢◌, ◌∙◌, ◌⊎◌, List, ℕ, Ok, Err, codes, refl, sym, ap, inl, inr, subst}
 use Rattle.std.specs.Result.{result_ok}
 use Rattle.url.proofs.OnLiterals.{url_on_literals}
 use Rattle.tile_uri.specs.Addresses.{address_of, join}
@@ -13,14 +13,13 @@ base_is : address_of (codes "http://tiles/") ≡ Ok (codes "http://tiles/")
 unfolding url_on_literals
 base_is = refl
 
-pub returns-in-Ok-copy : goal.returns-in-Ok-copy
-returns-in-Ok-copy c =
+pub returns-in-Ok-resolve : goal.returns-in-Ok-resolve
+returns-in-Ok-resolve c =
     let word = c.args.word.now in
     let address = c.in-Ok-resolve.address in
     let base : c.in-Ok.base ≡ codes "http://tiles/" = cc (c.in-Ok.ensures, base_is) in
     let joined : join c.in-Ok.base word ≡ Ok address = c.in-Ok-resolve.ensures in
-    let same : address ≡ c.in-Ok-copy.text = cc (c.in-Ok-copy.ensures.value, c.text.ensures.value) in
-    ap (λ b. result_ok (join b word)) (sym base) ∙ ap result_ok joined ∙ ap (λ t. Some t) same
+    ap (λ b. result_ok (join b word)) (sym base) ∙ ap result_ok joined
 
 refused : (word : List ℕ) (error : UriError) (answer : WordsError)
     → (error ≡ OutOfMemory) ⊎ (join (codes "http://tiles/") word ≡ Err error)
