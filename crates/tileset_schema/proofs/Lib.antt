@@ -1,0 +1,11 @@
+mod Counts
+mod Places
+mod Sixteens
+mod Chains
+mod Listed
+mod Trees
+mod Steps
+mod Following
+mod Depths
+mod Lasts
+mod CommonTiles

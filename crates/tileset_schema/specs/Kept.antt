@@ -1,0 +1,19 @@
+-- What is kept of a tile.
+use Rattle.std.specs.Prelude.{◌≤◌, IfSome}
+use Rattle.volumes.specs.Limits.{IsInRange, error_limit}
+use Rattle.tileset_schema.specs.Firsts.{IsFirst}
+use Rattle.tileset_schema.specs.Preorder.{Row}
+use Rattle.tileset_schema.specs.Rests as rests
+use Rattle.tileset_schema.specs.RowBy.{row_by}
+use Rattle.tileset_schema.specs.declared.written.Written.TheInside.{Inside}
+
+-- what the tile says, and how many tiles its tree has
+abbrev pub row_of : Inside → Row
+row_of w = row_by w.volume w.error w.first w.rest
+
+-- volumes and error are within their limits, and the first content is an address of its kind
+pub record IsWritten (w : Inside) : Type 0 where
+  pub volume : IsInRange w.volume
+  pub request : IfSome (rests.request w.rest) IsInRange
+  pub error : w.error ≤ error_limit
+  pub first : IsFirst (rests.marks w.rest).content w.first

@@ -1,0 +1,4 @@
+//! How large a document may be.
+
+/// How many tiles a document has at most.
+pub const TILE_LIMIT: u32 = 65_535;
