@@ -1,0 +1,4 @@
+pub mod Docs
+pub mod Store
+pub mod States
+pub mod Kept
