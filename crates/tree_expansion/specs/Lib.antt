@@ -1,0 +1,4 @@
+pub mod Expansion
+pub mod Growth
+pub mod Whole
+pub mod Seen
