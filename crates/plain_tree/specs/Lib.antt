@@ -1,0 +1,11 @@
+pub mod Preorder
+pub mod Trees
+pub mod Plain
+pub mod Windows
+pub mod Waits
+pub mod Tiles
+pub mod Found
+pub mod Nodes
+pub mod Growth
+pub mod Listed
+pub mod Standing

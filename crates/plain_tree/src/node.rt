@@ -1,0 +1,50 @@
+//! A node of the list, and what it takes over from the node above it.
+
+use tile_types::{Key, Refine};
+
+/// What a node stands for.
+#[derive(Clone, Copy, Debug)]
+pub(crate) enum NodeSource {
+    /// A tile, by the number of its document and its own number there, in preorder.
+    Tile { document: u32, tile: u32 },
+    /// A tileset that isn't loaded, by its number among those.
+    Pending { waiting: u64 },
+}
+
+/// A node. Its children stand side by side.
+#[derive(Clone, Copy, Debug)]
+pub(crate) struct PlainNode {
+    /// The place of its parent. The root stands at place 0, and has none.
+    pub(crate) parent: u64,
+    /// The number of its computed transform; of a pending node that of its parent.
+    pub(crate) transform: u64,
+    pub(crate) source: NodeSource,
+    /// Its number among its parent's children, which its name ends in.
+    pub(crate) number: u32,
+    /// How many external tilesets are followed below its document, one below the other.
+    pub(crate) levels: u8,
+    /// How it is refined.
+    pub(crate) refine: Refine,
+}
+
+/// What a child takes over from its parent.
+#[derive(Clone, Copy, Debug)]
+pub(crate) struct Handed {
+    /// The parent's place.
+    pub(crate) parent: u64,
+    /// The number of the parent's computed transform.
+    pub(crate) transform: u64,
+    /// The child's number among the parent's children.
+    pub(crate) number: u32,
+    /// How many external tilesets are followed below the child's document.
+    pub(crate) levels: u8,
+    /// How the parent is refined.
+    pub(crate) refine: Refine,
+}
+
+/// A tileset that isn't loaded, and the error of the tile that holds it, in micrometres.
+#[derive(Debug, Drop)]
+pub(crate) struct Waiting {
+    pub(crate) key: Key,
+    pub(crate) error: u64,
+}
