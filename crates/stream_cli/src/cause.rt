@@ -3,9 +3,10 @@
 ghost use Rattle.std.specs.Prelude.{◌≡◌, IfOk};
 ghost use Rattle.stream_cli.specs.Causes.{absence_name, fault_line, status_of};
 
-use crate::document::DocumentError;
+use crate::refusal::error_text;
 use std::alloc::{AllocError, AllocFailed, Global};
 use tile_types::Text;
+use tileset_schema::DocumentError;
 
 /// What a run ends with.
 #[derive(Clone, Copy, Debug, PartialEq, Eq)]
@@ -15,7 +16,7 @@ pub enum Cause {
     /// The words are no command.
     Words,
     /// The root document isn't read.
-    Document { cause: DocumentError },
+    Document { error: DocumentError },
     /// A fetch failed. This is how many fetches of its source failed so far.
     Source { count: u64 },
     /// A put failed. This is how many puts of its sink failed so far.
@@ -24,6 +25,10 @@ pub enum Cause {
     Memory,
     /// The source gave no root document.
     RootAbsent { why: NotHere },
+    /// The view visits more nodes than it may.
+    Tiles,
+    /// The tree has more nodes than are listed.
+    Listing,
 }
 
 /// Why a source gave no file.
@@ -48,7 +53,8 @@ impl NotHere {
 }
 
 impl Cause {
-    /// The exit status: 0 done, 1 words, 2 refused, 3 source, 4 sink, 7 memory, 8 absent.
+    /// The exit status: 0 done, 1 words, 2 refused, 3 source, 4 sink, 7 memory, 8 absent,
+    /// 9 too large.
     pub fn status(&self) -> u8
         ensures { result ≡ status_of self.now }
     {
@@ -60,6 +66,7 @@ impl Cause {
             Cause::Out { .. } => 4,
             Cause::Memory => 7,
             Cause::RootAbsent { .. } => 8,
+            Cause::Tiles | Cause::Listing => 9,
         }
     }
 
@@ -70,9 +77,9 @@ impl Cause {
         let line = match self {
             Cause::Done => String::new(alloc),
             Cause::Words => String::from_str(alloc, "fault 1 words\n")?,
-            Cause::Document { cause } => {
-                let name = cause.name();
-                format!(in alloc; "fault 2 document {name} - -\n")?
+            Cause::Document { error } => {
+                let text = error_text(alloc, *error)?;
+                format!(in alloc; "fault 2 document {text}\n")?
             }
             Cause::Source { count } => format!(in alloc; "fault 3 source {count}\n")?,
             Cause::Out { count } => format!(in alloc; "fault 4 out {count}\n")?,
@@ -81,6 +88,8 @@ impl Cause {
                 let name = why.name();
                 format!(in alloc; "fault 8 root {name}\n")?
             }
+            Cause::Tiles => String::from_str(alloc, "fault 9 tiles\n")?,
+            Cause::Listing => String::from_str(alloc, "fault 9 listing\n")?,
         };
         Text::new(alloc, line.as_str())
     }

@@ -1,3 +1,39 @@
-//! A file for each command.
+//! The commands, a file for each: which documents one waits for, and what it prints.
 
-pub mod cut;
+ghost use Rattle.std.specs.Prelude.{◌≡◌};
+ghost use Rattle.plain_tree.specs.Trees.{stored_tree};
+ghost use Rattle.stream_cli.specs.Looks.{Looks, OfCommand};
+ghost use Rattle.stream_cli.specs.Loading.{root_of};
+ghost use Rattle.stream_cli.specs.Sides.{out_run};
+
+mod cut;
+mod tiles;
+
+use crate::look::Look;
+use doc_store::DocStore;
+use source_port::Sink;
+use std::alloc::Global;
+use tile_uri::Address;
+use words_table::Command;
+
+/// The address of the root document that a command names.
+pub fn root_of(command: &Command) -> &Address
+    ensures { result.now ≡ root_of command.now }
+{
+    match command {
+        Command::Cut { root, .. } => root,
+        Command::Tiles { root } => root,
+    }
+}
+
+/// Looks at the tree of the loaded documents: prints what a command asks for of it, or says which
+/// documents that waits for.
+pub fn look<W: Sink>(alloc: Global, command: &Command, store: &DocStore, out: &mut W) -> Look
+    ensures { Looks (OfCommand command.now (stored_tree store.now))
+        (out_run W.written W.faults W.puts out.old out.new) (out.new ≡ out.old) result }
+{
+    match command {
+        Command::Cut { view, .. } => cut::look(alloc, view, store, out),
+        Command::Tiles { .. } => tiles::look(alloc, store, out),
+    }
+}

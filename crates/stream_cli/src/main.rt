@@ -1,30 +1,22 @@
-//! The program: it runs the command that stands behind its name, over the files below the current folder and
-//! standard output.
+//! The program: it runs the command that stands behind its name, over the files below the current
+//! folder and standard output.
 #![tactic(auto)]
 
 mod cause;
-mod command;
 mod commands;
-mod document;
 mod ended;
-mod fetching;
-mod form;
-mod lines;
-mod listed;
-mod members;
-mod node;
+mod everything;
+mod listing;
+mod loading;
+mod look;
+mod printing;
 mod program;
+mod refusal;
 mod report;
+mod rounds;
 mod run;
 #[cfg(test)]
 mod tests;
-mod tile;
-mod tile_members;
-mod tiles;
-mod unchecked;
-mod waiting;
-mod words;
-mod written;
 
 use crate::ended::Ended;
 use crate::program::{finish, read_arguments, run_arguments};
@@ -39,8 +31,8 @@ fn main(rt: HostRuntime) -> ExitCode {
     run_program(&rt, &mut rt.stderr())
 }
 
-/// Runs the program's arguments over the files below the current folder and standard output. The line of a
-/// fault is written to `errors`.
+/// Runs the program's arguments over the files below the current folder and standard output. The
+/// line of a fault is written to `errors`.
 fn run_program<R: Runtime + AllocGlobal + Threads + Sync, E: Write>(
     rt: &R,
     errors: &mut E,

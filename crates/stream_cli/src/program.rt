@@ -1,13 +1,15 @@
 //! The program around the run of its words: the arguments that it is given, and how it ends.
 
-ghost use Rattle.std.specs.Prelude.{◌≡◌, ◌≢◌, IfErr, IfOk};
+ghost use Rattle.std.specs.Prelude.{◌≡◌, ◌≢◌, ◌⊎◌, IfErr, IfOk, None};
 ghost use Rattle.std.specs.Bool.{OnTrue};
 ghost use Rattle.std.specs.Io.KnownBytes.{Appends};
 ghost use Rattle.std.specs.IoError.{error_kind};
 ghost use Rattle.std.specs.Process.{exit_status};
 ghost use Rattle.stream_cli.specs.Causes.{fault_line, status_of};
-ghost use Rattle.stream_cli.specs.Commands.{IsNoCommand, texts, words_behind};
-ghost use Rattle.stream_cli.specs.Runs.{Runs, out_run, source_run};
+ghost use Rattle.stream_cli.specs.Arguments.{words_behind};
+ghost use Rattle.stream_cli.specs.Runs.{IsUnread, Runs};
+ghost use Rattle.stream_cli.specs.Sides.{out_run, source_run};
+ghost use Rattle.words_table.specs.Commands.{command_of, texts};
 
 use crate::cause::Cause;
 use crate::ended::Ended;
@@ -45,12 +47,12 @@ pub fn run_arguments<R: Threads + Sync, S: Source, W: Sink>(
     out: &mut W,
 ) -> Ended
     ensures status { result.status ≡ status_of result.cause }
-    ensures words { result.cause ≡ Cause.Words → IsNoCommand (words_behind arguments.now) }
-    ensures runs { result.cause ≢ Cause.Words → result.cause ≢ Cause.Memory
-        → Runs (words_behind arguments.now)
+    ensures words { result.cause ≡ Cause.Words → command_of (words_behind arguments.now) ≡ None }
+    ensures runs { result.cause ≢ Cause.Words → Runs (words_behind arguments.now)
         (source_run S.library S.faults S.fetches source.old source.new)
         (out_run W.written W.faults W.puts out.old out.new)
-        (out.new ≡ out.old) result.cause }
+        (out.new ≡ out.old) result.cause
+        ⊎ IsUnread result.cause (source.new ≡ source.old) (out.new ≡ out.old) }
 {
     match words_of(alloc, arguments) {
         Ok(words) => run_plain(rt, alloc, words.as_slice(), source, out),

@@ -2,7 +2,8 @@
 
 ghost use Rattle.std.specs.Prelude.{◌≡◌, OnOk, IfOk, map};
 ghost use Rattle.stream_cli.specs.Report.{count_line, cut_text, shown_line};
-ghost use Rattle.stream_cli.specs.Runs.{PutsLines, out_run};
+ghost use Rattle.stream_cli.specs.Printing.{PutsLines};
+ghost use Rattle.stream_cli.specs.Sides.{out_run};
 
 use cut_core::{CutLine, CutList};
 use itoa::Buffer;
@@ -14,7 +15,8 @@ const COMMON_LINE: usize = 128;
 
 /// Prints a cut: `cut COUNT`, and `show TILE` for each of its lines. Each printed line is one put.
 pub fn print_cut<W: Sink>(alloc: Global, lines: &CutList, out: &mut W) -> Result<(), PutError>
-    ensures { PutsLines result (out_run W.written W.faults W.puts out.old out.new) (cut_text lines.now) }
+    ensures { PutsLines result (out_run W.written W.faults W.puts out.old out.new)
+        (cut_text lines.now) }
 {
     let Ok(mut line) = count_line(alloc, lines.len()) else {
         return Err(PutError::OutOfMemory);

@@ -1,18 +1,20 @@
 //! The run of a command.
 
-ghost use Rattle.std.specs.Prelude.{◌≡◌, ◌≢◌, ◌↔◌};
+ghost use Rattle.std.specs.Prelude.{◌≡◌, ◌≢◌, ◌⊎◌, None};
 ghost use Rattle.stream_cli.specs.Causes.{status_of};
-ghost use Rattle.stream_cli.specs.Commands.{IsNoCommand, texts};
-ghost use Rattle.stream_cli.specs.Runs.{Ends, Runs, out_run, source_run};
+ghost use Rattle.stream_cli.specs.Runs.{Ends, IsUnread, Runs};
+ghost use Rattle.stream_cli.specs.Sides.{out_run, source_run};
+ghost use Rattle.words_table.specs.Commands.{command_of, form_of, texts};
 
 use crate::cause::Cause;
-use crate::command::Command;
-use crate::commands::cut::run_cut;
+use crate::commands::root_of;
 use crate::ended::Ended;
-use crate::words::{WordsError, read_words};
+use crate::loading::open_store;
+use crate::rounds::run_rounds;
 use source_port::{Sink, Source};
 use std::alloc::Global;
 use std::thread::Threads;
+use words_table::{Command, WordsError, read_words};
 
 /// Runs the command that the words behind the program's name are, and prints what it asks for.
 pub fn run_plain<R: Threads + Sync, S: Source, W: Sink>(
@@ -23,13 +25,16 @@ pub fn run_plain<R: Threads + Sync, S: Source, W: Sink>(
     out: &mut W,
 ) -> Ended
     ensures status { result.status ≡ status_of result.cause }
-    ensures words { (result.cause ≡ Cause.Words) ↔ IsNoCommand (texts words.now) }
+    ensures words { result.cause ≡ Cause.Words → command_of (texts words.now) ≡ None }
     ensures runs { result.cause ≢ Cause.Words → Runs (texts words.now)
         (source_run S.library S.faults S.fetches source.old source.new)
         (out_run W.written W.faults W.puts out.old out.new)
-        (out.new ≡ out.old) result.cause }
+        (out.new ≡ out.old) result.cause
+        ⊎ IsUnread result.cause (source.new ≡ source.old) (out.new ≡ out.old) }
 
-    // Words that are no command ask for nothing.
+    // Words that are no command ask for nothing, and those without the form of one are told so
+    // whatever memory there is.
+    ensures formless { form_of (texts words.now) ≡ None → result.cause ≡ Cause.Words }
     ensures unfetched { result.cause ≡ Cause.Words → source.new ≡ source.old }
     ensures unprinted { result.cause ≡ Cause.Words → out.new ≡ out.old }
     ensures library { S.library source.new ≡ S.library source.old }
@@ -55,7 +60,8 @@ fn run_command<S: Source, W: Sink>(
         (out.new ≡ out.old) result }
     ensures library { S.library source.new ≡ S.library source.old }
 {
-    match command {
-        Command::Cut { root, view } => run_cut(alloc, root, view, source, out),
+    match open_store(alloc, root_of(command), source) {
+        Ok(mut store) => run_rounds(alloc, command, source, &mut store, out),
+        Err(cause) => cause,
     }
 }

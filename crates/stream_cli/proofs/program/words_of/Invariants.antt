@@ -1,5 +1,5 @@
 use Rattle.std.proofs.Common.{◌≡◌, map, take, string_bytes}
-use Rattle.stream_cli.specs.Commands.{texts}
+use Rattle.words_table.specs.Commands.{texts}
 use Rattle.stream_cli.proofs.program.words_of.Given as goal
 
 -- the words so far

@@ -1,11 +1,6 @@
-use Rattle.std.proofs.Common.{◌≡◌, ◌≤◌, ◌<◌, length, map, take, rules, refl, ap, ◌∙◌, sym, arith}
-use Rattle.std.proofs.lemmas.List.{length-map, take_all}
-use Rattle.std.specs.List.{flat_map}
-use Rattle.std.specs.Io.KnownBytes.{Appends}
-use Rattle.source_port.specs.Counts.{count_after}
-use Rattle.source_port.specs.Puts.{Writes}
+use Rattle.std.proofs.Common.{◌≡◌, rules, arith}
 use Rattle.stream_cli.specs.Report.{shown_line}
-use Rattle.stream_cli.proofs.Printing.{OutSide, stops_before, stops_at, puts_all}
+use Rattle.stream_cli.proofs.Puts.{OutSide, stops_before, stops_at, puts_all}
 use Rattle.stream_cli.proofs.report.put_shown.Goals as goal
 
 pub returns-then-is_err : goal.returns-then-is_err
@@ -30,12 +25,14 @@ returns-in-Err g c =
       faults = g.W.Sink.faults c.put.new.self;
       puts = g.W.Sink.puts c.put.new.self;
     } in
-    stops_at shown_line c.args.lines.now c.in-Err.cause c.loop-shown.shown-index c.shown-item.result start now new
+    stops_at shown_line c.args.lines.now c.in-Err.cause c.loop-shown.shown-index
+    c.shown-item.result start now new
     c.loop-shown-test.true c.shown-item.is c.loop-shown.invariant.put c.loop-shown.invariant.counted
     (rw line at c.in-Err.ensures.written) c.in-Err.ensures.faults
 
 pub returns : goal.returns
 returns g c =
-    puts_all shown_line c.args.lines.now c.loop-shown.shown-index _ _ _ _
+    let all = puts_all shown_line c.args.lines.now c.loop-shown.shown-index _ _ _ _
     (omega (arith, c.loop-shown-test.false)) (omega (arith, c.loop-shown.auto.shown-index-end))
-    c.loop-shown.invariant.put c.loop-shown.invariant.puts
+    c.loop-shown.invariant.put c.loop-shown.invariant.puts in
+    record { gained = all.0; puts = all.1 }

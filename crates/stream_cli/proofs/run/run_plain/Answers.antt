@@ -1,1 +1,0 @@
-use Rattle.stream_cli.proofs.run.run_plain.Goals as goal

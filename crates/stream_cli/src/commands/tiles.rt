@@ -1,0 +1,65 @@
+//! The command `tiles`.
+
+ghost use Rattle.std.specs.Prelude.{◌≡◌, IfOk};
+ghost use Rattle.plain_tree.specs.Standing.{standing_of};
+ghost use Rattle.plain_tree.specs.Trees.{stored_tree};
+ghost use Rattle.stream_cli.specs.Awaited.{awaited_anywhere};
+ghost use Rattle.stream_cli.specs.Listing.{listing};
+ghost use Rattle.stream_cli.specs.Looks.{Looks, OfTiles};
+ghost use Rattle.stream_cli.specs.Printing.{IsPrintCause};
+ghost use Rattle.stream_cli.specs.Sides.{out_run};
+
+use crate::cause::Cause;
+use crate::listing::put_tiles;
+use crate::look::Look;
+use crate::printing::cause_of;
+use doc_store::DocStore;
+use expanded_tree::TileTree;
+use plain_tree::{PlainError, PlainTree};
+use source_port::Sink;
+use std::alloc::{AllocError, Global};
+use tile_types::Key;
+
+/// Prints the tiles of the tree, or says which documents its nodes wait for.
+pub(crate) fn look<W: Sink>(alloc: Global, store: &DocStore, out: &mut W) -> Look
+    ensures { Looks (OfTiles (stored_tree store.now))
+        (out_run W.written W.faults W.puts out.old out.new) (out.new ≡ out.old) result }
+{
+    let tree = match PlainTree::build(alloc, store) {
+        Ok(tree) => tree,
+        Err(PlainError::TooLarge) => return Look::Ended(Cause::Listing),
+        Err(PlainError::OutOfMemory) => return Look::Ended(Cause::Memory),
+    };
+    if tree.is_whole() {
+        return Look::Ended(print_tiles(alloc, &tree, out));
+    }
+    match pending_keys(alloc, &tree) {
+        Ok(keys) => Look::Awaits(keys),
+        Err(_) => Look::Ended(Cause::Memory),
+    }
+}
+
+/// The keys of the pending nodes of a tree, in preorder.
+fn pending_keys(alloc: Global, tree: &PlainTree<'_>) -> Result<Vec<Key>, AllocError>
+    ensures { IfOk result (λ keys. keys.items ≡ awaited_anywhere (standing_of tree.now).tree) }
+{
+    let mut keys = Vec::new(alloc);
+    let nodes = tree.preorder(alloc)?;
+    for node in nodes.as_slice() {
+        if let Some(key) = tree.pending(*node) {
+            keys.push(key.copy(alloc)?)?;
+        }
+    }
+    Ok(keys)
+}
+
+/// Prints the tiles of a tree, in preorder.
+fn print_tiles<W: Sink>(alloc: Global, tree: &PlainTree<'_>, out: &mut W) -> Cause
+    ensures { IsPrintCause (out_run W.written W.faults W.puts out.old out.new)
+        (listing (standing_of tree.now).tree) result }
+{
+    let Ok(nodes) = tree.preorder(alloc) else {
+        return Cause::Memory;
+    };
+    cause_of(put_tiles(alloc, tree, nodes.as_slice(), out), out)
+}
