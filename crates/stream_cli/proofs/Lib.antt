@@ -5,4 +5,5 @@ mod Lines
 mod Loads
 mod Prefixes
 mod Puts
+mod Refusals
 mod Waiting

@@ -4,6 +4,14 @@ use Rattle.tileset_schema.specs.declared.field.Field.{Field}
 use Rattle.tileset_schema.specs.declared.field.Field.TheVariants as field
 use Rattle.tileset_schema.specs.declared.error.DocumentError.{DocumentError}
 use Rattle.tileset_schema.specs.declared.error.DocumentError.TheVariants as error
+use Rattle.source_port.specs.declared.source.FetchError.{FetchError}
+use Rattle.source_port.specs.declared.source.FetchError.TheVariants as fetch
+use Rattle.cut_core.specs.declared.error.CutError.{CutError}
+use Rattle.cut_core.specs.declared.error.CutError.TheVariants as cut
+use Rattle.plain_tree.specs.declared.error.PlainError.{PlainError}
+use Rattle.plain_tree.specs.declared.error.PlainError.TheVariants as plain
+use Rattle.words_table.specs.declared.error.WordsError.{WordsError}
+use Rattle.words_table.specs.declared.error.WordsError.TheVariants as words
 use Rattle.stream_cli.specs.declared.cause.Cause.{Cause}
 use Rattle.stream_cli.specs.declared.cause.Cause.TheVariants.{Done, Words, Document, Source, Out, Memory, RootAbsent, Tiles, Listing}
 use Rattle.stream_cli.specs.declared.cause.NotHere.{NotHere}
@@ -20,6 +28,42 @@ status_of Memory = 7
 status_of (RootAbsent why) = 8
 status_of Tiles = 9
 status_of Listing = 9
+
+-- ---- what a run ends with, by what a step refused
+
+-- the words weren't read
+abbrev pub words_cause : WordsError → Cause
+words_cause words.NotACommand = Words
+words_cause words.OutOfMemory = Memory
+
+-- the root document wasn't fetched; the source counts so many faults
+abbrev pub root_cause : FetchError → ℕ → Cause
+root_cause fetch.Missing count = RootAbsent Missing
+root_cause fetch.TooLong count = RootAbsent TooLong
+root_cause fetch.Failed count = Source count
+root_cause fetch.OutOfMemory count = Memory
+
+-- a further document wasn't fetched: nothing ends where it isn't there or is too long
+abbrev pub load_cause : FetchError → ℕ → Option Cause
+load_cause fetch.Missing count = None
+load_cause fetch.TooLong count = None
+load_cause fetch.Failed count = Some (Source count)
+load_cause fetch.OutOfMemory count = Some Memory
+
+-- the root document isn't read
+abbrev pub document_cause : DocumentError → Cause
+document_cause error.OutOfMemory = Memory
+document_cause e = Document e
+
+-- a view wasn't walked
+abbrev pub walk_cause : CutError → Cause
+walk_cause cut.TooLarge = Tiles
+walk_cause cut.OutOfMemory = Memory
+
+-- a tree wasn't written out
+abbrev pub tree_cause : PlainError → Cause
+tree_cause plain.TooLarge = Listing
+tree_cause plain.OutOfMemory = Memory
 
 -- ---- what is printed of a document that isn't read: the cause, the part and the tile, or `-`
 

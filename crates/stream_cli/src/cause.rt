@@ -1,12 +1,18 @@
 //! What a run ends with.
 
 ghost use Rattle.std.specs.Prelude.{◌≡◌, IfOk};
-ghost use Rattle.stream_cli.specs.Causes.{absence_name, fault_line, status_of};
+ghost use Rattle.stream_cli.specs.Causes.{absence_name, document_cause, fault_line, load_cause};
+ghost use Rattle.stream_cli.specs.Causes.{root_cause, status_of, tree_cause, walk_cause};
+ghost use Rattle.stream_cli.specs.Causes.{words_cause};
 
 use crate::refusal::error_text;
+use cut_core::CutError;
+use plain_tree::PlainError;
+use source_port::FetchError;
 use std::alloc::{AllocError, AllocFailed, Global};
 use tile_types::Text;
 use tileset_schema::DocumentError;
+use words_table::WordsError;
 
 /// What a run ends with.
 #[derive(Clone, Copy, Debug, PartialEq, Eq)]
@@ -53,6 +59,76 @@ impl NotHere {
 }
 
 impl Cause {
+    /// What a run ends with whose words weren't read.
+    pub fn of_words(error: WordsError) -> Cause
+        ensures { result ≡ words_cause error }
+    {
+        match error {
+            WordsError::NotACommand => Cause::Words,
+            WordsError::OutOfMemory => Cause::Memory,
+        }
+    }
+
+    /// What a run ends with whose root document wasn't fetched, from a source that counts so many
+    /// faults.
+    pub fn of_root(error: FetchError, count: u64) -> Cause
+        ensures { result ≡ root_cause error count }
+    {
+        match error {
+            FetchError::Missing => Cause::RootAbsent {
+                why: NotHere::Missing,
+            },
+            FetchError::TooLong => Cause::RootAbsent {
+                why: NotHere::TooLong,
+            },
+            FetchError::Failed => Cause::Source { count },
+            FetchError::OutOfMemory => Cause::Memory,
+        }
+    }
+
+    /// What a run ends with where a further document wasn't fetched: none where it isn't there or
+    /// is too long, so that it is absent.
+    pub fn of_load(error: FetchError, count: u64) -> Option<Cause>
+        ensures { result ≡ load_cause error count }
+    {
+        match error {
+            FetchError::Missing => None,
+            FetchError::TooLong => None,
+            FetchError::Failed => Some(Cause::Source { count }),
+            FetchError::OutOfMemory => Some(Cause::Memory),
+        }
+    }
+
+    /// What a run ends with whose root document isn't read.
+    pub fn of_document(error: DocumentError) -> Cause
+        ensures { result ≡ document_cause error }
+    {
+        match error {
+            DocumentError::OutOfMemory => Cause::Memory,
+            error => Cause::Document { error },
+        }
+    }
+
+    /// What a run ends with whose view wasn't walked.
+    pub fn of_walk(error: CutError) -> Cause
+        ensures { result ≡ walk_cause error }
+    {
+        match error {
+            CutError::TooLarge => Cause::Tiles,
+            CutError::OutOfMemory => Cause::Memory,
+        }
+    }
+
+    /// What a run ends with whose tree wasn't written out.
+    pub fn of_tree(error: PlainError) -> Cause
+        ensures { result ≡ tree_cause error }
+    {
+        match error {
+            PlainError::TooLarge => Cause::Listing,
+            PlainError::OutOfMemory => Cause::Memory,
+        }
+    }
+
     /// The exit status: 0 done, 1 words, 2 refused, 3 source, 4 sink, 7 memory, 8 absent,
     /// 9 too large.
     pub fn status(&self) -> u8

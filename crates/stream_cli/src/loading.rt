@@ -11,14 +11,13 @@ ghost use Rattle.stream_cli.specs.Sides.{source_run};
 ghost use Rattle.stream_cli.specs.Steps.{AsksFor, IsLoadCause, IsOpenCause, IsReadCause, LoadsOn};
 ghost use Rattle.stream_cli.specs.declared.cause.Cause.TheVariants.{Memory};
 
-use crate::cause::{Cause, NotHere};
+use crate::cause::Cause;
 use bytes::Bytes;
 use doc_store::{Added, DOCUMENT_LIMIT, DocState, DocStore};
-use source_port::{FetchError, Source};
+use source_port::Source;
 use std::alloc::Global;
 use tile_types::{Key, Kind};
 use tile_uri::Address;
-use tileset_schema::DocumentError;
 
 /// Fetches the root document and opens a store of it, or answers what the run ends with.
 pub fn open_store<S: Source>(
@@ -36,16 +35,7 @@ pub fn open_store<S: Source>(
     let mut bytes = Vec::new(alloc);
     match source.fetch(alloc, root.text().as_str(), DOCUMENT_LIMIT, &mut bytes) {
         Ok(()) => read_root(alloc, root, bytes),
-        Err(FetchError::Missing) => Err(Cause::RootAbsent {
-            why: NotHere::Missing,
-        }),
-        Err(FetchError::TooLong) => Err(Cause::RootAbsent {
-            why: NotHere::TooLong,
-        }),
-        Err(FetchError::Failed) => Err(Cause::Source {
-            count: source.faults(),
-        }),
-        Err(FetchError::OutOfMemory) => Err(Cause::Memory),
+        Err(error) => Err(Cause::of_root(error, source.faults())),
     }
 }
 
@@ -60,8 +50,7 @@ fn read_root(alloc: Global, root: &Address, bytes: Vec<u8>) -> Result<DocStore, 
     };
     match DocStore::open(alloc, root, bytes) {
         Ok(store) => Ok(store),
-        Err(DocumentError::OutOfMemory) => Err(Cause::Memory),
-        Err(error) => Err(Cause::Document { error }),
+        Err(error) => Err(Cause::of_document(error)),
     }
 }
 
@@ -116,18 +105,13 @@ fn load<S: Source>(
     let mut bytes = Vec::new(alloc);
     match source.fetch(alloc, key.address.as_str(), DOCUMENT_LIMIT, &mut bytes) {
         Ok(()) => keep(alloc, key, bytes, store),
-        Err(FetchError::Missing) => {
-            store.mark_absent(key);
-            Ok(())
-        }
-        Err(FetchError::TooLong) => {
-            store.mark_absent(key);
-            Ok(())
-        }
-        Err(FetchError::Failed) => Err(Cause::Source {
-            count: source.faults(),
-        }),
-        Err(FetchError::OutOfMemory) => Err(Cause::Memory),
+        Err(error) => match Cause::of_load(error, source.faults()) {
+            None => {
+                store.mark_absent(key);
+                Ok(())
+            }
+            Some(cause) => Err(cause),
+        },
     }
 }
 

@@ -14,7 +14,7 @@ use crate::rounds::run_rounds;
 use source_port::{Sink, Source};
 use std::alloc::Global;
 use std::thread::Threads;
-use words_table::{Command, WordsError, read_words};
+use words_table::{Command, read_words};
 
 /// Runs the command that the words behind the program's name are, and prints what it asks for.
 pub fn run_plain<R: Threads + Sync, S: Source, W: Sink>(
@@ -41,8 +41,7 @@ pub fn run_plain<R: Threads + Sync, S: Source, W: Sink>(
 {
     let command = match read_words(alloc, words) {
         Ok(command) => command,
-        Err(WordsError::NotACommand) => return Ended::by(Cause::Words),
-        Err(WordsError::OutOfMemory) => return Ended::by(Cause::Memory),
+        Err(error) => return Ended::by(Cause::of_words(error)),
     };
     Ended::by(run_command(alloc, &command, source, out))
 }

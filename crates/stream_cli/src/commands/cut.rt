@@ -14,7 +14,7 @@ use crate::everything::EverythingThere;
 use crate::look::Look;
 use crate::printing::cause_of;
 use crate::report::print_cut;
-use cut_core::{CutError, ideal, want};
+use cut_core::{ideal, want};
 use doc_store::DocStore;
 use error_test::View;
 use plain_tree::PlainTree;
@@ -55,8 +55,7 @@ fn keys_awaited(
 {
     let wants = match want(alloc, tree, &EverythingThere, view) {
         Ok(wants) => wants,
-        Err(CutError::TooLarge) => return Err(Cause::Tiles),
-        Err(CutError::OutOfMemory) => return Err(Cause::Memory),
+        Err(error) => return Err(Cause::of_walk(error)),
     };
     if wants.is_empty() {
         return Ok(None);
@@ -86,8 +85,7 @@ fn print_ideal<W: Sink>(alloc: Global, view: &View, tree: &mut PlainTree<'_>, ou
 {
     let lines = match ideal(alloc, tree, &EverythingThere, view) {
         Ok(lines) => lines,
-        Err(CutError::TooLarge) => return Cause::Tiles,
-        Err(CutError::OutOfMemory) => return Cause::Memory,
+        Err(error) => return Cause::of_walk(error),
     };
     cause_of(print_cut(alloc, &lines, out), out)
 }

@@ -15,7 +15,7 @@ use crate::look::Look;
 use crate::printing::cause_of;
 use doc_store::DocStore;
 use expanded_tree::TileTree;
-use plain_tree::{PlainError, PlainTree};
+use plain_tree::PlainTree;
 use source_port::Sink;
 use std::alloc::{AllocError, Global};
 use tile_types::Key;
@@ -27,8 +27,7 @@ pub(crate) fn look<W: Sink>(alloc: Global, store: &DocStore, out: &mut W) -> Loo
 {
     let tree = match PlainTree::build(alloc, store) {
         Ok(tree) => tree,
-        Err(PlainError::TooLarge) => return Look::Ended(Cause::Listing),
-        Err(PlainError::OutOfMemory) => return Look::Ended(Cause::Memory),
+        Err(error) => return Look::Ended(Cause::of_tree(error)),
     };
     if tree.is_whole() {
         return Look::Ended(print_tiles(alloc, &tree, out));

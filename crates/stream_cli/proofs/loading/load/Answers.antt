@@ -1,7 +1,9 @@
-use Rattle.std.proofs.Common.{◌≡◌, ◌∙◌, inl, inr, subst}
-use Rattle.source_port.specs.Library.{HasBytes, Lacks, PassesLimit}
+use Rattle.std.proofs.Common.{◌≡◌, ◌∙◌, Err, subst, sym}
+use Rattle.source_port.specs.Fetches.{Answers}
+use Rattle.source_port.specs.Library.{HasBytes}
 use Rattle.doc_store.specs.declared.limits.TheConstants.{DOCUMENT_LIMIT}
 use Rattle.stream_cli.proofs.Loads.{asks_absent, asks_weaker, loads_nothing, loads_one, on_ok, side_of}
+use Rattle.stream_cli.proofs.Refusals.{load_absent}
 use Rattle.stream_cli.proofs.loading.load.Goals as goal
 
 pub returns-then-ne-clause-loads : goal.returns-then-ne-clause-loads
@@ -27,32 +29,21 @@ returns-in-Ok-fetch-clause-loads g c =
     (asks library (record { there = there; within = c.in-Ok-fetch.ensures.answer.1 }))))
     c.keep.ensures.asks
 
-pub returns-in-Err-Missing-clause-loads : goal.returns-in-Err-Missing-clause-loads
-returns-in-Err-Missing-clause-loads g c =
+pub returns-in-None-clause-loads : goal.returns-in-None-clause-loads
+returns-in-None-clause-loads g c =
     let side = side_of g.S.LibraryName.library g.S.Source.faults g.S.Source.fetches in
     let library = g.S.LibraryName.library c.args.source.now in
-    let told = rw c.in-Err-Missing.field-0-is at c.in-Err-Missing.ensures in
-    let lacks = subst (Lacks library) c.as_str.ensures.value told.answer in
+    let key = c.in-Ok.key in
+    let store = c.reserve.new.self in
+    let absent =
+    load_absent c.in-Err.error (side c.args.source.now) (side c.fetch.new.self) store key
+    c.fetch.new.into.items c.faults.result
+    (subst (λ a. Answers (Err c.in-Err.error) library a DOCUMENT_LIMIT c.fetch.new.into.items)
+    c.as_str.ensures.value c.in-Err.ensures.answer)
+    c.in-Err.ensures.faults c.in-Err.ensures.fetches
+    (sym c.of_load.ensures ∙ c.in-None.is) in
     loads_one (λ k. k ≡ c.args.key.now) (side c.args.source.now) (side c.fetch.new.self)
-    c.args.store.now
-    c.reserve.new.self c.mark_absent.new.self c.reserve.ensures.loaded c.reserve.ensures.gone
-    told.faults told.fetches
-    (asks_absent library (λ k. k ≡ c.args.key.now) c.reserve.new.self c.mark_absent.new.self
-    c.in-Ok.key c.in-Ok.ensures.value
-    c.mark_absent.ensures.loaded c.mark_absent.ensures.gone (inl lacks))
-
-pub returns-in-Err-TooLong-clause-loads : goal.returns-in-Err-TooLong-clause-loads
-returns-in-Err-TooLong-clause-loads g c =
-    let side = side_of g.S.LibraryName.library g.S.Source.faults g.S.Source.fetches in
-    let library = g.S.LibraryName.library c.args.source.now in
-    let told = rw c.in-Err-TooLong.field-0-is at c.in-Err-TooLong.ensures in
-    let long =
-    subst (λ a. PassesLimit library a DOCUMENT_LIMIT) c.as_str.ensures.value told.answer in
-    let marked = c.mark_absent-in-Err-TooLong in
-    loads_one (λ k. k ≡ c.args.key.now) (side c.args.source.now) (side c.fetch.new.self)
-    c.args.store.now
-    c.reserve.new.self marked.new.self c.reserve.ensures.loaded c.reserve.ensures.gone
-    told.faults told.fetches
-    (asks_absent library (λ k. k ≡ c.args.key.now) c.reserve.new.self marked.new.self c.in-Ok.key
-    c.in-Ok.ensures.value marked.ensures.loaded
-    marked.ensures.gone (inr (inl long)))
+    c.args.store.now store c.mark_absent.new.self c.reserve.ensures.loaded
+    c.reserve.ensures.gone absent.faults absent.fetches
+    (asks_absent library (λ k. k ≡ c.args.key.now) store c.mark_absent.new.self key
+    c.in-Ok.ensures.value c.mark_absent.ensures.loaded c.mark_absent.ensures.gone absent.why)
