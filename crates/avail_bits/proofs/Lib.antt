@@ -1,0 +1,4 @@
+mod Counted
+mod Digits
+mod Linear
+mod Listed

@@ -1,0 +1,5 @@
+pub mod Bitstreams
+pub mod Counts
+pub mod Forms
+pub mod Morton
+pub mod Spread
