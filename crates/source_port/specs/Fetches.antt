@@ -18,13 +18,13 @@ Answers (Err TooLong) library address limit bytes = PassesLimit library address 
 Answers (Err Failed) library address limit bytes = Unit {0}
 Answers (Err OutOfMemory) library address limit bytes = Unit {0}
 
--- a fetch fails only where the count of faults rose
+-- the count of faults rises where a fetch fails, and stays where it ends otherwise
 abbrev pub RisesAtFailure : Fetched → ℕ → ℕ → Type 0
-RisesAtFailure (Ok done) old new = old ≤ new
-RisesAtFailure (Err Missing) old new = old ≤ new
-RisesAtFailure (Err TooLong) old new = old ≤ new
+RisesAtFailure (Ok done) old new = new ≡ old
+RisesAtFailure (Err Missing) old new = new ≡ old
+RisesAtFailure (Err TooLong) old new = new ≡ old
 RisesAtFailure (Err Failed) old new = HasRisen old new × (old ≤ new)
-RisesAtFailure (Err OutOfMemory) old new = old ≤ new
+RisesAtFailure (Err OutOfMemory) old new = new ≡ old
 
 -- each fetch is counted, but for one that found no memory
 abbrev pub CountsFetch : Fetched → ℕ → ℕ → Type 0

@@ -22,9 +22,9 @@ Writes (Ok done) old new piece = Appends old new piece
 Writes (Err SinkFailed) old new piece = AppendsPrefix old new piece
 Writes (Err OutOfMemory) old new piece = Keeps old new
 
--- a put fails only where the count of faults rose, and wants memory only where the count stays
+-- the count of faults rises where a put fails, and stays where it ends otherwise
 abbrev pub RisesAtFailure : Put → ℕ → ℕ → Type 0
-RisesAtFailure (Ok done) old new = old ≤ new
+RisesAtFailure (Ok done) old new = new ≡ old
 RisesAtFailure (Err SinkFailed) old new = HasRisen old new × (old ≤ new)
 RisesAtFailure (Err OutOfMemory) old new = new ≡ old
 
