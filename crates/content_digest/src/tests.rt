@@ -1,6 +1,6 @@
 //! Digests of the messages that FIPS 180-4 has as examples and others, and what no clause says.
 
-use crate::{Content, digests};
+use crate::{Content, ContentFacts, digests};
 use bytes::Bytes;
 use lists::List;
 use std::test::Fail;
@@ -60,6 +60,16 @@ fn many_digests(rt: HostRuntime) -> Result<(), Fail> {
     let bytes = Bytes::copy_from_slice(alloc, joined.as_slice())?;
     assert_eq!(rt; bytes.len(), 160_000);
     assert_eq!(rt; *Content::new(bytes).digest(), OF_DIGESTS);
+    Ok(())
+}
+
+#[test]
+fn what_is_kept_of_a_content(rt: HostRuntime) -> Result<(), Fail> {
+    let facts = ContentFacts {
+        length: 3,
+        digest: ABC,
+    };
+    assert_eq!(rt; ContentFacts::of(b"abc"), facts);
     Ok(())
 }
 
