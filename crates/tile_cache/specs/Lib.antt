@@ -1,0 +1,4 @@
+pub mod Kept
+pub mod Pins
+pub mod Residents
+pub mod Room
