@@ -1,0 +1,4 @@
+pub mod Bests
+pub mod Changes
+pub mod Keys
+pub mod Trees

@@ -1,0 +1,4 @@
+pub mod Best
+pub mod Entries
+pub mod Queues
+pub mod Trees
