@@ -1,5 +1,5 @@
 -- Counts of calls, one run of calls behind another.
-use Rattle.std.proofs.Common.{◌≡◌, ℕ, zero, suc, ◌+◌, ◌≤◌, ap, ◌∙◌, inl, inr, arith}
+use Rattle.std.proofs.Common.{◌≡◌, ℕ, zero, suc, ◌+◌, ap, ◌∙◌, arith, subst}
 use Rattle.source_port.specs.Counts.{HasRisen, count_after, next_count}
 
 -- calls, and then so many more
@@ -17,8 +17,5 @@ pub counts_behind : (calls more start now new : ℕ) → now ≡ count_after cal
 counts_behind calls more start now new first then =
     then ∙ ap (count_after more) first ∙ counts_then more calls start
 
-pub later_risen : (start now new : ℕ) → start ≤ now → HasRisen now new → HasRisen start new
-later_risen start now new before risen = elim risen [
-  | inl more ↦ inl (omega (arith, before, more))
-  | inr last ↦ inr last
-]
+pub later_risen : (start now new : ℕ) → now ≡ start → HasRisen now new → HasRisen start new
+later_risen start now new before risen = subst (λ n. HasRisen n new) before risen

@@ -1,9 +1,15 @@
 mod Counting
 mod Ending
+mod Entries
+mod Given
+mod Keeping
+mod Lacking
 mod Librarys
+mod Limits
 mod Lines
 mod Loads
 mod Prefixes
 mod Puts
 mod Refusals
+mod Showing
 mod Waiting

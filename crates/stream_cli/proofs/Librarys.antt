@@ -1,8 +1,8 @@
 -- What is loaded from a library that is told stands for the library's own tree.
-use Rattle.std.proofs.Common.{◌≡◌, ◌≤◌, ℕ, Bool, true, false, Some, None, List, [], ◌∷◌, length, All}
-use Rattle.std.proofs.Common.{refl, sym, ap, ◌∙◌, arith}
-use Rattle.std.proofs.Common.{◌&&◌, ◌||◌, nat_eq, rules, subst}
-use Rattle.std.specs.Prelude.{if◌then◌else◌, nat_le}
+use Rattle.std.proofs.Common.{◌≡◌, ℕ, Bool, true, false, Option, Some, None, List, [], ◌∷◌, length, All}
+use Rattle.std.proofs.Common.{refl, sym, ap, ◌∙◌}
+use Rattle.std.proofs.Common.{◌&&◌, ◌||◌, nat_eq, subst}
+use Rattle.std.specs.Prelude.{if◌then◌else◌}
 use Rattle.std.specs.List.{list_any}
 use Rattle.std.specs.Cmp.Lexicographic.{pointwise, same_text}
 use Rattle.std.proofs.lemmas.List.Elements.{All-head, All-tail}
@@ -23,16 +23,16 @@ use Rattle.stream_cli.specs.Awaited.{nothing_absent}
 use Rattle.stream_cli.specs.Listing.{listing}
 use Rattle.stream_cli.specs.Loading.{IsFetched, IsLoadedFrom, Loads, WasFetched, root_of}
 use Rattle.stream_cli.specs.Report.{cut_text}
-use Rattle.stream_cli.specs.Runs.{AreTheLibrarys, HadRoom, HasNone, IsReady, lines_asked}
-use Rattle.stream_cli.specs.Sides.{SourceRun}
+use Rattle.stream_cli.specs.Contents.{AreFetched, FetchedContent, bytes_in, contents_of, lacking}
+use Rattle.stream_cli.specs.Runs.{AreTheLibrarys, HadRoom, HasNone, IsReady, contents_asked, lines_asked}
+use Rattle.stream_cli.proofs.Given.{given_agree, same_cut}
+use Rattle.stream_cli.proofs.Lacking.{left_out}
+use Rattle.stream_cli.proofs.Limits.{is_within}
 
 both : (a b : Bool) → (a && b) ≡ true → (a ≡ true) × (b ≡ true)
 both true true e = (refl, refl)
 both true false e = cc
 both false b e = cc
-
-pub is_within : (n limit : ℕ) → n ≤ limit → nat_le n limit ≡ true
-is_within n limit h = search (rules, arith)
 
 -- keys that are the same have one address
 same_address : (a b : Key) → same_key a b ≡ true → a.address ≡ b.address
@@ -89,28 +89,35 @@ agrees library store from room = record {
 
 -- the lines that a command asks for are those of the library's whole tree
 of_library : (command : Command) (library : Library) (store : Stored)
+    (contents : List FetchedContent)
     → AgreesWith library (docs store) → root_address store ≡ root_of command
     → IsReady command (stored_tree store)
-    → lines_asked command (stored_tree store)
-    ≡ lines_asked command (full library (root_of command))
+    → AreFetched (Some library) (contents_asked command (stored_tree store)) contents
+    → lines_asked command (bytes_in contents) (stored_tree store)
+    ≡ lines_asked command (contents_of library) (full library (root_of command))
 unfolding stored_tree
-of_library (Cut address view) library store h root ready =
-    ap cut_text
-    (cut_is_full view (with_all nothing_absent) library (docs store) h (root_address store)
+of_library (Cut address view) library store contents h root ready fetched =
+    let tree = stored_tree store in
+    let lines = ideal view nothing_absent tree in
+    let given = contents_of library in
+    ap (cut_text (bytes_in contents)) (left_out view (bytes_in contents) tree ready.loaded)
+    ∙ same_cut (bytes_in contents) given lines (given_agree library lines contents fetched)
+    ∙ ap (cut_text given) (sym (left_out view given tree ready.loaded))
+    ∙ ap (cut_text given)
+    (cut_is_full view (with_all (lacking given)) library (docs store) h (root_address store)
     ready.loaded
-    ∙ ap (λ a. ideal view nothing_absent (full library a)) root)
-of_library (Tiles address) library store h root ready =
+    ∙ ap (λ a. ideal view (lacking given) (full library a)) root)
+of_library (Tiles address) library store contents h root ready fetched =
     ap listing
     (whole_is_full library (docs store) h (root_address store) ready.loaded
     ∙ ap (full library) root)
 
-pub librarys : (command : Command) (source : SourceRun) (store : Stored)
-    → Loads command source store → IsReady command (stored_tree store)
-    → AreTheLibrarys command source.library store
-librarys command source store loads ready =
-    elim source.library as (λ l. source.library ≡ l → AreTheLibrarys command l store) [
-      | None ↦ λ e. tt
-      | Some library ↦ λ e room. of_library command library store
-          (agrees library store (rw e at loads.from_library) room)
-          (rw loads.root_first refl) ready
-    ] refl
+pub librarys : (command : Command) (library : Option Library) (store : Stored)
+    (contents : List FetchedContent) → Loads command library store
+    → IsReady command (stored_tree store)
+    → AreFetched library (contents_asked command (stored_tree store)) contents
+    → AreTheLibrarys command library store (bytes_in contents)
+librarys command None store contents loads ready fetched = tt
+librarys command (Some library) store contents loads ready fetched = λ room.
+    of_library command library store contents
+    (agrees library store loads.from_library room) (rw loads.root_first refl) ready fetched

@@ -1,5 +1,5 @@
 -- Documents that are loaded one behind another.
-use Rattle.std.proofs.Common.{◌≡◌, ℕ, ◌+◌, ◌≤◌, Option, List, [], ◌∷◌, ◌++◌, length, All, Contains}
+use Rattle.std.proofs.Common.{◌≡◌, ℕ, ◌+◌, Option, List, [], ◌∷◌, ◌++◌, length, All, Contains}
 use Rattle.std.proofs.Common.{Result, Ok, Err, OnOk}
 use Rattle.std.proofs.Common.{refl, sym, ap, ◌∙◌, inl, inr, arith, append_assoc, append-nil, length-append, subst}
 use Rattle.std.proofs.lemmas.List.Elements.{All-append, All-weaker, All-push, All-same, All-nil, All-cons}
@@ -11,8 +11,9 @@ use Rattle.doc_store.specs.Store.{Stored, IsFull, total_bytes, with_document}
 use Rattle.plain_tree.specs.Trees.{stored_tree}
 use Rattle.words_table.specs.declared.command.Command.{Command}
 use Rattle.stream_cli.specs.Awaited.{IsEarlier, WasAwaited, awaited}
-use Rattle.stream_cli.specs.Loading.{IsFault, IsFetched, IsGone, IsLoadedFrom, Loads, Opens, WasFetched, root_of}
-use Rattle.stream_cli.specs.Sides.{SourceRun}
+use Rattle.stream_cli.specs.Loading.{Fetches, IsFault, IsFetched, IsGone, IsLoadedFrom, Loads, Opens, WasFetched, asked_for, root_of}
+use Rattle.stream_cli.specs.Looks.{IsIdle}
+use Rattle.stream_cli.specs.Sides.{SourceRun, Stays}
 use Rattle.stream_cli.specs.Steps.{AsksFor, IsLoadCause, LoadsOn}
 use Rattle.stream_cli.specs.declared.cause.Cause.{Cause}
 use Rattle.stream_cli.specs.declared.cause.Cause.TheVariants as cause
@@ -208,12 +209,12 @@ loads_nothing wanted s a = record {
   more = 0;
   asks = asks_nothing s.library wanted a a refl refl;
   fetches = refl;
-  counted = omega arith;
+  unfailed = refl;
 }
 
 -- one document was asked for, behind a step that changed none
 pub loads_one : (wanted : Key → Type 0) (s t : SourceSide) (a b c : Stored)
-    → b.loaded ≡ a.loaded → b.gone ≡ a.gone → s.faults ≤ t.faults
+    → b.loaded ≡ a.loaded → b.gone ≡ a.gone → t.faults ≡ s.faults
     → t.fetches ≡ next_count s.fetches → AsksFor s.library wanted b c 1
     → LoadsOn (run_between s t) wanted a c
 loads_one wanted s t a b c loaded gone before one asks = record {
@@ -221,7 +222,7 @@ loads_one wanted s t a b c loaded gone before one asks = record {
   asks =
       asks_then s.library wanted a b c 0 1 (asks_nothing s.library wanted a b loaded gone) asks;
   fetches = one;
-  counted = before;
+  unfailed = before;
 }
 
 pub loads_then : (wanted : Key → Type 0) (s t u : SourceSide) (a b c : Stored)
@@ -234,7 +235,18 @@ loads_then wanted s t u a b c same first then = record {
       (subst (λ l. AsksFor l wanted b c then.more) same then.asks);
   fetches =
       counts_behind first.more then.more s.fetches t.fetches u.fetches first.fetches then.fetches;
-  counted = omega (arith, first.counted, then.counted);
+  unfailed = then.unfailed ∙ first.unfailed;
+}
+
+-- documents that were loaded, and then nothing
+pub loads_idle : (wanted : Key → Type 0) (s t u : SourceSide) (a b : Stored)
+    → LoadsOn (run_between s t) wanted a b → IsIdle (run_between t u) 0
+    → LoadsOn (run_between s u) wanted a b
+loads_idle wanted s t u a b first idle = record {
+  more = first.more;
+  asks = first.asks;
+  fetches = idle.fetches ∙ first.fetches;
+  unfailed = idle.unfailed ∙ first.unfailed;
 }
 
 -- the same documents, which are also of other keys
@@ -244,7 +256,7 @@ loads_weaker P Q source a b weaker loads = record {
   more = loads.more;
   asks = asks_weaker P Q source.library a b loads.more weaker loads.asks;
   fetches = loads.fetches;
-  counted = loads.counted;
+  unfailed = loads.unfailed;
 }
 
 -- a round: the documents that the tree of what was loaded waited for
@@ -265,20 +277,19 @@ round_then command keys s t u a b c same are first then =
       awaited = subst (λ ks. Contains ks key) are among;
     }) then)
 
--- a fault behind documents that were loaded
-pub fault_behind : (wanted : Key → Type 0) (s t u : SourceSide) (a b : Stored) (count : ℕ)
-    → LoadsOn (run_between s t) wanted a b → IsFault (run_between t u) count
+-- a fault behind so many fetches, of which none failed
+pub fault_behind : (s t u : SourceSide) (before count : ℕ) → Fetches (run_between s t) before
+    → Stays (run_between s t).faults → IsFault (run_between t u) count
     → IsFault (run_between s u) count
-fault_behind wanted s t u a b count first fault = record {
-  asked = first.more + fault.asked;
+fault_behind s t u before count fetched unfailed fault = record {
+  asked = before + fault.asked;
   fetches =
-      (let e : first.more + (fault.asked + 1) ≡ first.more + fault.asked + 1 = omega arith in
-      counts_behind first.more (fault.asked + 1) s.fetches t.fetches u.fetches first.fetches
-      fault.fetches
+      (let e : before + (fault.asked + 1) ≡ before + fault.asked + 1 = omega arith in
+      counts_behind before (fault.asked + 1) s.fetches t.fetches u.fetches fetched fault.fetches
       ∙ ap (λ n. count_after n s.fetches) e);
   risen = record {
     counted = fault.risen.counted;
-    risen = later_risen s.faults t.faults u.faults first.counted fault.risen.risen;
+    risen = later_risen s.faults t.faults u.faults unfailed fault.risen.risen;
   };
 }
 
@@ -286,7 +297,7 @@ fault_behind wanted s t u a b count first fault = record {
 
 -- the root document alone
 pub loads_root : (command : Command) (source : SourceRun) (store : Stored)
-    → Opens (root_of command) source store → Loads command source store
+    → Opens (root_of command) source store → Loads command source.library store
 loads_root command source store opens =
     let l : Loaded = record { key = tileset_key (root_of command); bytes = opens.bytes } in
     record {
@@ -308,20 +319,21 @@ loads_root command source store opens =
             All-same (IsGone source.library store) store.gone [] opens.alone.gone
             (All-nil (IsGone source.library store));
       };
-      fetches =
-          (let e : 1 ≡ length store.loaded + length store.gone =
-          omega (arith, ap length opens.alone.loaded, ap length opens.alone.gone) in
-          opens.fetches ∙ ap (λ n. count_after n source.fetches.before) e);
     }
 
-pub loads_behind : (command : Command) (s t u : SourceSide) (a b : Stored)
-    → t.library ≡ s.library → Loads command (run_between s t) a
-    → LoadsOn (run_between t u) (WasAwaited command b) a b
-    → Loads command (run_between s u) b
-loads_behind command s t u a b same first then =
-    let before = then.asks.before in
-    let from : IsLoadedFrom s.library a → IsLoadedFrom s.library b =
-    subst (λ l. IsLoadedFrom l a → IsLoadedFrom l b) same then.asks.from_library in
+-- one fetch, and one document is there
+pub opens_one : (root : List ℕ) (source : SourceRun) (store : Stored) → Opens root source store
+    → Fetches source (asked_for store)
+opens_one root source store opens =
+    let e : 1 ≡ length store.loaded + length store.gone =
+    omega (arith, ap length opens.alone.loaded, ap length opens.alone.gone) in
+    opens.fetches ∙ ap (λ n. count_after n source.fetches.before) e
+
+pub loads_behind : (command : Command) (library : Option Library) (a b : Stored) (more : ℕ)
+    → Loads command library a → AsksFor library (WasAwaited command b) a b more
+    → Loads command library b
+loads_behind command library a b more first asks =
+    let before = asks.before in
     record {
       bytes = first.bytes;
       others = first.others ++ before.added;
@@ -331,51 +343,28 @@ loads_behind command s t u a b same first then =
             All-append (λ l. WasAwaited command b l.key) first.others before.added
             (All-weaker (λ l. WasAwaited command a l.key) (λ l. WasAwaited command b l.key)
             (λ l. awaited_later command a b before l.key) first.others first.awaited.documents)
-            then.asks.documents;
+            asks.documents;
         keys =
             All-same (WasAwaited command b) b.gone (a.gone ++ before.marked) before.gone
             (All-append (WasAwaited command b) a.gone before.marked
             (All-weaker (WasAwaited command a) (WasAwaited command b)
             (awaited_later command a b before) a.gone first.awaited.keys)
-            then.asks.keys);
+            asks.keys);
       };
-      from_library = from first.from_library;
-      fetches =
-          counts_behind (length a.loaded + length a.gone) then.more s.fetches t.fetches u.fetches
-          first.fetches then.fetches
-          ∙ ap (λ n. count_after n s.fetches) (sym then.asks.asked);
+      from_library = asks.from_library first.from_library;
     }
 
--- a fault behind the root document
-pub root_fault : (command : Command) (s t u : SourceSide) (a : Stored) (count : ℕ)
-    → s.faults ≤ t.faults → Loads command (run_between s t) a
-    → IsFault (run_between t u) count → IsFault (run_between s u) count
-root_fault command s t u a count before first fault =
-    let asked = length a.loaded + length a.gone in
-    record {
-      asked = asked + fault.asked;
-      fetches =
-          (let e : asked + (fault.asked + 1) ≡ asked + fault.asked + 1 = omega arith in
-          counts_behind asked (fault.asked + 1) s.fetches t.fetches u.fetches first.fetches
-          fault.fetches
-          ∙ ap (λ n. count_after n s.fetches) e);
-      risen = record {
-        counted = fault.risen.counted;
-        risen = later_risen s.faults t.faults u.faults before fault.risen.risen;
-      };
-    }
-
--- loading stops behind documents that were loaded
-pub stops_behind : (wanted : Key → Type 0) (s t u : SourceSide) (a b : Stored) (cause : Cause)
-    → LoadsOn (run_between s t) wanted a b → IsLoadCause (run_between t u) cause
-    → IsLoadCause (run_between s u) cause
-stops_behind wanted s t u a b cause.Done first stops = absurd stops
-stops_behind wanted s t u a b cause.Words first stops = absurd stops
-stops_behind wanted s t u a b (cause.Document error) first stops = absurd stops
-stops_behind wanted s t u a b (cause.Source count) first stops =
-    fault_behind wanted s t u a b count first stops
-stops_behind wanted s t u a b (cause.Out count) first stops = absurd stops
-stops_behind wanted s t u a b cause.Memory first stops = tt
-stops_behind wanted s t u a b (cause.RootAbsent why) first stops = absurd stops
-stops_behind wanted s t u a b cause.Tiles first stops = absurd stops
-stops_behind wanted s t u a b cause.Listing first stops = absurd stops
+-- loading stops behind so many fetches, of which none failed
+pub stops_behind : (s t u : SourceSide) (before : ℕ) (cause : Cause)
+    → Fetches (run_between s t) before → Stays (run_between s t).faults
+    → IsLoadCause (run_between t u) cause → IsLoadCause (run_between s u) cause
+stops_behind s t u before cause.Done fetched unfailed stops = absurd stops
+stops_behind s t u before cause.Words fetched unfailed stops = absurd stops
+stops_behind s t u before (cause.Document error) fetched unfailed stops = absurd stops
+stops_behind s t u before (cause.Source count) fetched unfailed stops =
+    fault_behind s t u before count fetched unfailed stops
+stops_behind s t u before (cause.Out count) fetched unfailed stops = absurd stops
+stops_behind s t u before cause.Memory fetched unfailed stops = stops ∙ unfailed
+stops_behind s t u before (cause.RootAbsent why) fetched unfailed stops = absurd stops
+stops_behind s t u before cause.Tiles fetched unfailed stops = absurd stops
+stops_behind s t u before cause.Listing fetched unfailed stops = absurd stops

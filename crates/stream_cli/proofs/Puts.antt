@@ -88,7 +88,7 @@ module _ {A : Type 0} (f : A → List ℕ) (xs : List A) where
   -- at a put that fails
   pub stops_at : (cause : PutError) (i : ℕ) (x : A) (start now new : OutSide) → i < length xs
       → x ≡ get_or xs i x
-      → Appends start.held now.held (flat_map f (take i xs)) → start.faults ≤ now.faults
+      → Appends start.held now.held (flat_map f (take i xs)) → now.faults ≡ start.faults
       → Writes (Err cause) now.held new.held (f x)
       → RisesAtFailure (Err cause) now.faults new.faults
       → PutsLines (Err cause) (between start new) (map f xs)
@@ -96,8 +96,10 @@ module _ {A : Type 0} (f : A → List ℕ) (xs : List A) where
     later_risen start.faults now.faults new.faults before rises.0,
     stops_within i x start.held now.held new.held h e put wrote,
   )
-  stops_at OutOfMemory i x start now new h e put before wrote rises =
-      stops_within i x start.held now.held new.held h e put (kept now.held new.held (f x) wrote)
+  stops_at OutOfMemory i x start now new h e put before wrote rises = (
+    rises ∙ before,
+    stops_within i x start.held now.held new.held h e put (kept now.held new.held (f x) wrote),
+  )
 
 -- ---- a line, and then the others
 
@@ -108,23 +110,26 @@ pub stops_first : (cause : PutError) (line : List ℕ) (lines : List (List ℕ))
 stops_first SinkFailed line lines old new wrote rises =
     (rises.0, front_of_more old.held new.held line (joined lines) wrote)
 stops_first OutOfMemory line lines old new wrote rises =
-    kept old.held new.held (line ++ joined lines) wrote
+    (rises, kept old.held new.held (line ++ joined lines) wrote)
 
 -- where the first was put
 pub then_others : (result : Put) (line : List ℕ) (lines : List (List ℕ)) (old now new : OutSide)
-    → Appends old.held now.held line → old.faults ≤ now.faults → now.puts ≡ next_count old.puts
+    → Appends old.held now.held line → now.faults ≡ old.faults → now.puts ≡ next_count old.puts
     → PutsLines result (between now new) lines → PutsLines result (between old new) (line ∷ lines)
 then_others (Ok done) line lines old now new put before counted rest = record {
   gained = appends_both old.held now.held new.held line (joined lines) put rest.gained;
   puts =
       rest.puts ∙ ap (count_after (length lines)) counted ∙ counts_first (length lines) old.puts;
+  unfailed = rest.unfailed ∙ before;
 }
 then_others (Err SinkFailed) line lines old now new put before counted rest = (
   later_risen old.faults now.faults new.faults before rest.0,
   front_behind old.held now.held new.held line (joined lines) put rest.1,
 )
-then_others (Err OutOfMemory) line lines old now new put before counted rest =
-    front_behind old.held now.held new.held line (joined lines) put rest
+then_others (Err OutOfMemory) line lines old now new put before counted rest = (
+  rest.0 ∙ before,
+  front_behind old.held now.held new.held line (joined lines) put rest.1,
+)
 
 -- ---- some lines, and then others
 
@@ -134,27 +139,37 @@ joined-append (x ∷ xs) ys =
     ap (λ text. x ++ text) (joined-append xs ys) ∙ sym (append_assoc x (joined xs) (joined ys))
 
 pub puts_nothing : (side : OutSide) → GainsLines (between side side) []
-puts_nothing side = record { gained = appends_nothing side.held; puts = refl }
+puts_nothing side = record { gained = appends_nothing side.held; puts = refl; unfailed = refl }
+
+-- one line
+pub one_put : (line : List ℕ) (old now : OutSide) → Appends old.held now.held line
+    → now.faults ≡ old.faults → now.puts ≡ next_count old.puts
+    → GainsLines (between old now) (line ∷ [])
+one_put line old now put unfailed counted =
+    then_others (Ok tt) line [] old now now put unfailed counted (puts_nothing now)
 
 pub puts_then : (result : Put) (xs ys : List (List ℕ)) (old now new : OutSide)
-    → GainsLines (between old now) xs → old.faults ≤ now.faults
+    → GainsLines (between old now) xs
     → PutsLines result (between now new) ys → PutsLines result (between old new) (xs ++ ys)
-puts_then (Ok done) xs ys old now new first before rest = record {
+puts_then (Ok done) xs ys old now new first rest = record {
   gained =
       rw (joined-append xs ys)
       (appends_both old.held now.held new.held (joined xs) (joined ys) first.gained rest.gained);
   puts =
       counts_behind (length xs) (length ys) old.puts now.puts new.puts first.puts rest.puts
       ∙ ap (λ n. count_after n old.puts) (sym (length-append xs ys));
+  unfailed = rest.unfailed ∙ first.unfailed;
 }
-puts_then (Err SinkFailed) xs ys old now new first before rest = (
-  later_risen old.faults now.faults new.faults before rest.0,
+puts_then (Err SinkFailed) xs ys old now new first rest = (
+  later_risen old.faults now.faults new.faults first.unfailed rest.0,
   rw (joined-append xs ys)
       (front_behind old.held now.held new.held (joined xs) (joined ys) first.gained rest.1),
 )
-puts_then (Err OutOfMemory) xs ys old now new first before rest =
-    rw (joined-append xs ys)
-    (front_behind old.held now.held new.held (joined xs) (joined ys) first.gained rest)
+puts_then (Err OutOfMemory) xs ys old now new first rest = (
+  rest.0 ∙ first.unfailed,
+  rw (joined-append xs ys)
+      (front_behind old.held now.held new.held (joined xs) (joined ys) first.gained rest.1),
+)
 
 -- where putting some lines stops, others aren't put
 pub stops_early : (cause : PutError) (xs ys : List (List ℕ)) (out : OutRun)
@@ -163,8 +178,10 @@ stops_early SinkFailed xs ys out stops = (
   stops.0,
   rw (joined-append xs ys) (front_of_more out.held out.holds (joined xs) (joined ys) stops.1),
 )
-stops_early OutOfMemory xs ys out stops =
-    rw (joined-append xs ys) (front_of_more out.held out.holds (joined xs) (joined ys) stops)
+stops_early OutOfMemory xs ys out stops = (
+  stops.0,
+  rw (joined-append xs ys) (front_of_more out.held out.holds (joined xs) (joined ys) stops.1),
+)
 
 -- ---- the lines of each of a list
 
@@ -176,22 +193,21 @@ flat_map_next f xs i x h e =
 module _ {A : Type 0} (f : A → List (List ℕ)) (xs : List A) where
   -- those of one more
   pub gains_more : (i : ℕ) (x : A) (old now new : OutSide) → i < length xs → x ≡ get_or xs i x
-      → GainsLines (between old now) (flat_map f (take i xs)) → old.faults ≤ now.faults
-      → GainsLines (between now new) (f x)
+      → GainsLines (between old now) (flat_map f (take i xs)) → GainsLines (between now new) (f x)
       → GainsLines (between old new) (flat_map f (take (i + 1) xs))
-  gains_more i x old now new h e first before more =
+  gains_more i x old now new h e first more =
       rw (flat_map_next f xs i x h e)
-      (puts_then (Ok tt) (flat_map f (take i xs)) (f x) old now new first before more)
+      (puts_then (Ok tt) (flat_map f (take i xs)) (f x) old now new first more)
 
   -- where those of one aren't put whole
   pub stops_at_one : (cause : PutError) (i : ℕ) (x : A) (old now new : OutSide) → i < length xs
       → x ≡ get_or xs i x → GainsLines (between old now) (flat_map f (take i xs))
-      → old.faults ≤ now.faults → PutsLines (Err cause) (between now new) (f x)
+      → PutsLines (Err cause) (between now new) (f x)
       → PutsLines (Err cause) (between old new) (flat_map f xs)
-  stops_at_one cause i x old now new h e first before stops =
+  stops_at_one cause i x old now new h e first stops =
       rw (flat_map_at f xs i x h e)
       (puts_then (Err cause) (flat_map f (take i xs)) (f x ++ flat_map f (drop (i + 1) xs)) old
-      now new first before
+      now new first
       (stops_early cause (f x) (flat_map f (drop (i + 1) xs)) (between now new) stops))
 
   -- those of all

@@ -14,7 +14,7 @@ use Rattle.cut_core.specs.Distances.{Measured, measured_visits, trees_in}
 use Rattle.cut_core.specs.Laws.{IsLoaded}
 use Rattle.cut_core.specs.Visits.{IsWithinLimit, all_visited_nodes, keeps_own, visited_nodes, visits}
 use Rattle.cut_core.specs.declared.findings.TheConstants.{VISITED_LIMIT}
-use Rattle.stream_cli.proofs.Librarys.{is_within}
+use Rattle.stream_cli.proofs.Limits.{is_within}
 use Rattle.std.specs.Prelude.{if◌then◌else◌}
 use Rattle.cut_core.specs.Wants.{each_once, wanted, wants_of, with_want}
 

@@ -43,7 +43,7 @@ root_cause fetch.TooLong count = RootAbsent TooLong
 root_cause fetch.Failed count = Source count
 root_cause fetch.OutOfMemory count = Memory
 
--- a further document wasn't fetched: nothing ends where it isn't there or is too long
+-- a further document or a content wasn't fetched: nothing ends where it isn't there or is too long
 abbrev pub load_cause : FetchError → ℕ → Option Cause
 load_cause fetch.Missing count = None
 load_cause fetch.TooLong count = None

@@ -1,6 +1,8 @@
 pub mod Arguments
 pub mod Awaited
 pub mod Causes
+pub mod Contents
+pub mod Kept
 pub mod Listing
 pub mod Loading
 pub mod Looks

@@ -11,7 +11,7 @@ use Rattle.tileset_schema.specs.declared.error.DocumentError.{DocumentError}
 use Rattle.words_table.specs.declared.command.Command.{Command}
 use Rattle.words_table.specs.declared.command.Command.TheVariants.{Cut, Tiles}
 use Rattle.stream_cli.specs.Awaited.{WasAwaited}
-use Rattle.stream_cli.specs.Sides.{SourceRun, HasRisenTo}
+use Rattle.stream_cli.specs.Sides.{SourceRun, HasRisenTo, Stays}
 use Rattle.stream_cli.specs.declared.cause.NotHere.{NotHere}
 use Rattle.stream_cli.specs.declared.cause.NotHere.TheVariants.{Missing, TooLong}
 
@@ -20,7 +20,7 @@ abbrev pub root_of : Command → List ℕ
 root_of (Cut root view) = root
 root_of (Tiles root) = root
 
--- so many documents were fetched
+-- so many fetches were answered
 abbrev pub Fetches : SourceRun → ℕ → Type 0
 Fetches source count = source.fetches.after ≡ count_after count source.fetches.before
 
@@ -62,16 +62,14 @@ pub record WereAwaited (command : Command) (store : Stored) (others : List Loade
   pub documents : All (λ l. WasAwaited command store l.key) others
   pub keys : All (WasAwaited command store) gone
 
--- the documents that the run of a command loaded: first the root, and then what it waited for, each
--- by one fetch
-pub record Loads (command : Command) (source : SourceRun) (store : Stored) : Type 0 where
+-- the documents that the run of a command loaded: first the root, and then what it waited for
+pub record Loads (command : Command) (library : Option Library) (store : Stored) : Type 0 where
   pub bytes : List ℕ
   pub others : List Loaded
   pub root_first : store.loaded
       ≡ record { key = tileset_key (root_of command); bytes = bytes } ∷ others
   pub awaited : WereAwaited command store others store.gone
-  pub from_library : IsLoadedFrom source.library store
-  pub fetches : Fetches source (asked_for store)
+  pub from_library : IsLoadedFrom library store
 
 -- the store of the root document alone, which was fetched
 pub record Opens (root : List ℕ) (source : SourceRun) (store : Stored) : Type 0 where
@@ -79,6 +77,7 @@ pub record Opens (root : List ℕ) (source : SourceRun) (store : Stored) : Type 
   pub alone : IsAlone store root bytes
   pub fetched : IsFetched source.library root bytes
   pub fetches : Fetches source 1
+  pub unfailed : Stays source.faults
 
 -- ---- why documents aren't loaded
 
@@ -88,14 +87,31 @@ pub record IsRefused (root : List ℕ) (source : SourceRun) (cause : DocumentErr
   pub fetched : IsFetched source.library root bytes
   pub refused : document bytes root ≡ Err cause
   pub fetches : Fetches source 1
+  pub unfailed : Stays source.faults
 
--- a fetch failed, behind those of the documents that were asked for
+-- a fetch failed, behind those of what was asked for before
 pub record IsFault (source : SourceRun) (count : ℕ) : Type 0 where
   pub asked : ℕ
   pub fetches : Fetches source (asked + 1)
   pub risen : HasRisenTo source.faults count
 
--- where the library is told, it has no root document, or one that is too long
-abbrev pub IsAbsent : NotHere → Option Library → List ℕ → Type 0
-IsAbsent Missing library address = Lacks library address
-IsAbsent TooLong library address = PassesLimit library address DOCUMENT_LIMIT
+-- where the library is told, it has no document at the address, or one that is too long
+abbrev pub LacksDocument : NotHere → Option Library → List ℕ → Type 0
+LacksDocument Missing library address = Lacks library address
+LacksDocument TooLong library address = PassesLimit library address DOCUMENT_LIMIT
+
+-- the root document isn't there, or is too long
+pub record IsAbsent (why : NotHere) (root : List ℕ) (source : SourceRun) : Type 0 where
+  pub lacks : LacksDocument why source.library root
+  pub fetches : Fetches source 1
+  pub unfailed : Stays source.faults
+
+-- the root document was fetched
+pub record IsReached (root : List ℕ) (source : SourceRun) : Type 0 where
+  pub bytes : List ℕ
+  pub fetched : IsFetched source.library root bytes
+
+-- memory ran out: no fetch failed, and either none was answered, or the root document was fetched
+pub record IsShort (root : List ℕ) (source : SourceRun) : Type 0 where
+  pub unfailed : Stays source.faults
+  pub reached : Stays source.fetches ⊎ IsReached root source

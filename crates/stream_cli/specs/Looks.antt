@@ -1,5 +1,5 @@
 -- What a look at the tree of the loaded documents leaves.
-use Rattle.std.specs.Prelude.{ℕ, ◌≡◌, ◌⊎◌, ◌<◌, List, Option}
+use Rattle.std.specs.Prelude.{ℕ, ◌≡◌, ◌⊎◌, ◌+◌, ◌<◌, List, [], length, Option}
 use Rattle.tile_types.specs.declared.key.Key.{Key}
 use Rattle.error_test.specs.Views.{ViewParts}
 use Rattle.expanded_tree.specs.Tree.{Tree}
@@ -8,24 +8,28 @@ use Rattle.cut_core.specs.Visits.{VisitsTooMany}
 use Rattle.plain_tree.specs.Trees.{size_of}
 use Rattle.plain_tree.specs.declared.limits.TheConstants.{NODE_LIMIT}
 use Rattle.words_table.specs.declared.command.Command.{Command}
-use Rattle.stream_cli.specs.Awaited.{awaited, awaited_anywhere, awaited_in_view, nothing_absent}
+use Rattle.stream_cli.specs.Awaited.{awaited, awaited_anywhere, awaited_in_view}
+use Rattle.stream_cli.specs.Contents.{AreFetched, Contents, FetchedContent, addresses_shown, bytes_in, lacking}
+use Rattle.stream_cli.specs.Loading.{Fetches, IsFault}
 use Rattle.stream_cli.specs.Listing.{listing}
-use Rattle.stream_cli.specs.Printing.{GainsLines, GainsSome}
+use Rattle.stream_cli.specs.Printing.{GainsAtMost, GainsLines, GainsSome}
 use Rattle.stream_cli.specs.Report.{cut_text}
-use Rattle.stream_cli.specs.Runs.{HasTooManyNodes, HasTooManyVisits, IsListable, IsReady, IsSeen, lines_asked}
-use Rattle.stream_cli.specs.Sides.{HasRisenTo, OutRun}
+use Rattle.stream_cli.specs.Runs.{HasTooManyNodes, HasTooManyVisits, IsListable, IsReady, IsSeen, contents_asked, lines_asked}
+use Rattle.stream_cli.specs.Sides.{HasRisenTo, OutRun, SourceRun, Stays}
 use Rattle.stream_cli.specs.declared.cause.Cause.{Cause}
 use Rattle.stream_cli.specs.declared.cause.Cause.TheVariants as cause
 use Rattle.stream_cli.specs.declared.look.Look.{Look}
 use Rattle.stream_cli.specs.declared.look.Look.TheVariants.{Awaits, Ended}
 
 -- what is asked for of a tree: whether it waits for no document, whether the view visits too many
--- nodes or there are too many to list, the lines, and the keys that it waits for
+-- nodes or there are too many to list, the addresses of contents, the lines with these, and the keys
+-- that it waits for
 pub record Asked : Type 1 where
   pub ready : Type 0
   pub many_visits : Type 0
   pub many_nodes : Type 0
-  pub lines : List (List ℕ)
+  pub contents : List (List ℕ)
+  pub lines : Contents → List (List ℕ)
   pub awaited : List Key
 
 -- what `cut` asks for
@@ -34,7 +38,8 @@ OfCut view root = record {
   ready = IsSeen view root;
   many_visits = VisitsTooMany view root;
   many_nodes = ⊥;
-  lines = cut_text (ideal view nothing_absent root);
+  contents = addresses_shown view root;
+  lines = λ contents. cut_text contents (ideal view (lacking contents) root);
   awaited = awaited_in_view view root;
 }
 
@@ -44,7 +49,8 @@ OfTiles root = record {
   ready = IsListable root;
   many_visits = ⊥;
   many_nodes = NODE_LIMIT < size_of root;
-  lines = listing root;
+  contents = [];
+  lines = λ contents. listing root;
   awaited = awaited_anywhere root;
 }
 
@@ -54,21 +60,44 @@ OfCommand command root = record {
   ready = IsReady command root;
   many_visits = HasTooManyVisits command root;
   many_nodes = HasTooManyNodes command root;
-  lines = lines_asked command root;
+  contents = contents_asked command root;
+  lines = λ contents. lines_asked command contents root;
   awaited = awaited command root;
 }
 
--- what a look ends with that prints, or finds that there is too much; `unprinted` says that the
--- output is as it was
-abbrev pub EndsLook : Asked → OutRun → Type 0 → Cause → Type 0
-EndsLook asked out unprinted cause.Done = asked.ready × GainsLines out asked.lines
-EndsLook asked out unprinted (cause.Out count) =
-    asked.ready × HasRisenTo out.faults count × GainsSome out asked.lines
-EndsLook asked out unprinted cause.Memory = unprinted ⊎ (asked.ready × GainsSome out asked.lines)
-EndsLook asked out unprinted cause.Tiles = asked.many_visits × unprinted
-EndsLook asked out unprinted cause.Listing = asked.many_nodes × unprinted
-EndsLook asked out unprinted _ = ⊥
+-- nothing was asked for, behind so many documents
+pub record IsIdle (source : SourceRun) (before : ℕ) : Type 0 where
+  pub fetches : Fetches source before
+  pub unfailed : Stays source.faults
 
-abbrev pub Looks : Asked → OutRun → Type 0 → Look → Type 0
-Looks asked out unprinted (Awaits keys) = unprinted × (keys.items ≡ asked.awaited)
-Looks asked out unprinted (Ended cause) = EndsLook asked out unprinted cause
+-- the contents that are asked for were fetched, each by one fetch behind so many documents, and
+-- this became of the lines
+pub record Shows (asked : Asked) (source : SourceRun) (before : ℕ)
+    (becomes : List (List ℕ) → Type 0) : Type 0 where
+  pub ready : asked.ready
+  pub contents : List FetchedContent
+  pub fetched : AreFetched source.library asked.contents contents
+  pub fetches : Fetches source (before + length contents)
+  pub unfailed : Stays source.faults
+  pub printed : becomes (asked.lines (bytes_in contents))
+
+-- what a look ends with that prints, or finds that there is too much, where so many documents were
+-- fetched before; `unprinted` says that the output is as it was
+abbrev pub EndsLook : Asked → SourceRun → ℕ → OutRun → Type 0 → Cause → Type 0
+EndsLook asked source before out unprinted cause.Done = Shows asked source before (GainsLines out)
+EndsLook asked source before out unprinted (cause.Source count) =
+    IsFault source count × unprinted
+EndsLook asked source before out unprinted (cause.Out count) =
+    HasRisenTo out.faults count × Shows asked source before (GainsSome out)
+EndsLook asked source before out unprinted cause.Memory =
+    Stays source.faults × (unprinted ⊎ Shows asked source before (GainsAtMost out))
+EndsLook asked source before out unprinted cause.Tiles =
+    asked.many_visits × IsIdle source before × unprinted
+EndsLook asked source before out unprinted cause.Listing =
+    asked.many_nodes × IsIdle source before × unprinted
+EndsLook asked source before out unprinted _ = ⊥
+
+abbrev pub Looks : Asked → SourceRun → OutRun → Type 0 → Look → Type 0
+Looks asked source out unprinted (Awaits keys) =
+    IsIdle source 0 × unprinted × (keys.items ≡ asked.awaited)
+Looks asked source out unprinted (Ended cause) = EndsLook asked source 0 out unprinted cause

@@ -1,5 +1,5 @@
 -- What a run ends with, and what it did to its source and its output.
-use Rattle.std.specs.Prelude.{◌≡◌, ◌⊎◌, ℕ, ◌≤◌, ◌<◌, List, Option, Some, None, All}
+use Rattle.std.specs.Prelude.{◌≡◌, ◌⊎◌, ℕ, ◌+◌, ◌≤◌, ◌<◌, List, [], length, Option, Some, None, All}
 use Rattle.tile_types.specs.declared.key.Key.{Key}
 use Rattle.source_port.specs.Library.{Library}
 use Rattle.doc_store.specs.Store.{Stored}
@@ -15,20 +15,27 @@ use Rattle.words_table.specs.Commands.{command_of}
 use Rattle.words_table.specs.declared.command.Command.{Command}
 use Rattle.words_table.specs.declared.command.Command.TheVariants.{Cut, Tiles}
 use Rattle.stream_cli.specs.Listing.{listing}
-use Rattle.stream_cli.specs.Awaited.{nothing_absent}
-use Rattle.stream_cli.specs.Loading.{Fetches, IsAbsent, IsFault, IsRefused, Loads, root_of}
+use Rattle.stream_cli.specs.Contents.{AreFetched, Contents, FetchedContent, addresses_shown, bytes_in, contents_of, lacking}
+use Rattle.stream_cli.specs.Loading.{Fetches, IsAbsent, IsFault, IsRefused, IsShort, Loads, asked_for, root_of}
 use Rattle.stream_cli.specs.Printing.{GainsLines, GainsSome}
 use Rattle.stream_cli.specs.Report.{cut_text}
-use Rattle.stream_cli.specs.Sides.{OutRun, SourceRun, HasRisenTo}
+use Rattle.stream_cli.specs.Sides.{OutRun, SourceRun, HasRisenTo, Stays}
 use Rattle.stream_cli.specs.declared.cause.Cause.{Cause}
 use Rattle.stream_cli.specs.declared.cause.Cause.TheVariants as cause
 
 -- ---- what a command asks for
 
--- the lines that a command asks for of a tree: the ideal cut for a view, or all tiles
-abbrev pub lines_asked : Command → Option Tree → List (List ℕ)
-lines_asked (Cut address view) root = cut_text (ideal view nothing_absent root)
-lines_asked (Tiles address) root = listing root
+-- the lines that a command asks for of a tree with these contents: the ideal cut for a view, or all
+-- tiles
+abbrev pub lines_asked : Command → Contents → Option Tree → List (List ℕ)
+lines_asked (Cut address view) contents root =
+    cut_text contents (ideal view (lacking contents) root)
+lines_asked (Tiles address) contents root = listing root
+
+-- the addresses of the contents that a command asks for: those of the ideal cut, each once, or none
+abbrev pub contents_asked : Command → Option Tree → List (List ℕ)
+contents_asked (Cut address view) root = addresses_shown view root
+contents_asked (Tiles address) root = []
 
 -- no node that the view visits waits for a document, and they are no more than they may be
 pub record IsSeen (view : ViewParts) (root : Option Tree) : Type 0 where
@@ -66,37 +73,46 @@ abbrev pub HadRoom : Library → Stored → Type 0
 HadRoom library store = All (HasNone library) store.gone
 
 -- where the library is told and there was room for every document, the lines are those of the tree
--- of all that the library has
-abbrev pub AreTheLibrarys : Command → Option Library → Stored → Type 0
-AreTheLibrarys command None store = Unit {0}
-AreTheLibrarys command (Some library) store = HadRoom library store
-    → lines_asked command (stored_tree store) ≡ lines_asked command (full library (root_of command))
+-- of all that the library has, with the library's contents
+abbrev pub AreTheLibrarys : Command → Option Library → Stored → Contents → Type 0
+AreTheLibrarys command None store contents = Unit {0}
+AreTheLibrarys command (Some library) store contents = HadRoom library store
+    → lines_asked command contents (stored_tree store)
+    ≡ lines_asked command (contents_of library) (full library (root_of command))
 
 -- ---- how a run ends
 
--- what a command asks for is loaded
-pub record IsLoadedFor (command : Command) (source : SourceRun) (store : Stored) : Type 0 where
-  pub loads : Loads command source store
+-- what a command asks for is loaded: documents and contents, each by one fetch, of which none failed
+pub record IsLoadedFor (command : Command) (source : SourceRun) (store : Stored)
+    (contents : List FetchedContent) : Type 0 where
+  pub loads : Loads command source.library store
   pub ready : IsReady command (stored_tree store)
-  pub librarys : AreTheLibrarys command source.library store
+  pub fetched : AreFetched source.library (contents_asked command (stored_tree store)) contents
+  pub fetches : Fetches source (asked_for store + length contents)
+  pub unfailed : Stays source.faults
+  pub librarys : AreTheLibrarys command source.library store (bytes_in contents)
 
 -- the lines that the command asks for were put, each by one put, and nothing else
 pub record Prints (command : Command) (source : SourceRun) (out : OutRun) : Type 0 where
   pub store : Stored
-  pub loaded : IsLoadedFor command source store
-  pub gained : GainsLines out (lines_asked command (stored_tree store))
+  pub contents : List FetchedContent
+  pub loaded : IsLoadedFor command source store contents
+  pub gained : GainsLines out (lines_asked command (bytes_in contents) (stored_tree store))
 
 -- a prefix of their text was put
 pub record PrintsPrefix (command : Command) (source : SourceRun) (out : OutRun) : Type 0 where
   pub store : Stored
-  pub loaded : IsLoadedFor command source store
-  pub gained : GainsSome out (lines_asked command (stored_tree store))
+  pub contents : List FetchedContent
+  pub loaded : IsLoadedFor command source store contents
+  pub gained : GainsSome out (lines_asked command (bytes_in contents) (stored_tree store))
 
 -- the tree of what was loaded is too large
 pub record IsTooLarge (command : Command) (source : SourceRun)
     (large : Option Tree → Type 0) : Type 0 where
   pub store : Stored
-  pub loads : Loads command source store
+  pub loads : Loads command source.library store
+  pub fetches : Fetches source (asked_for store)
+  pub unfailed : Stays source.faults
   pub is_large : large (stored_tree store)
 
 -- what holds of a run of this command that ends with this cause; `unprinted` says that the output
@@ -109,9 +125,11 @@ Ends command source out unprinted (cause.Document error) =
 Ends command source out unprinted (cause.Source count) = IsFault source count × unprinted
 Ends command source out unprinted (cause.Out count) =
     HasRisenTo out.faults count × PrintsPrefix command source out
-Ends command source out unprinted cause.Memory = unprinted ⊎ PrintsPrefix command source out
+Ends command source out unprinted cause.Memory =
+    IsShort (root_of command) source
+    × (unprinted ⊎ (Stays out.faults × PrintsPrefix command source out))
 Ends command source out unprinted (cause.RootAbsent why) =
-    IsAbsent why source.library (root_of command) × Fetches source 1 × unprinted
+    IsAbsent why (root_of command) source × unprinted
 Ends command source out unprinted cause.Tiles =
     IsTooLarge command source (HasTooManyVisits command) × unprinted
 Ends command source out unprinted cause.Listing =

@@ -35,6 +35,10 @@ out_run written faults puts old new = record {
   puts = record { before = puts old; after = puts new };
 }
 
+-- the count is as it was
+abbrev pub Stays : Change → Type 0
+Stays count = count.after ≡ count.before
+
 -- the count of faults rose, and came to this
 pub record HasRisenTo (faults : Change) (count : ℕ) : Type 0 where
   pub counted : count ≡ faults.after

@@ -1,5 +1,5 @@
 -- What the steps of loading leave, each behind the one before.
-use Rattle.std.specs.Prelude.{ℕ, ◌≡◌, ◌⊎◌, ◌≤◌, ◌+◌, Option, Err, List, All}
+use Rattle.std.specs.Prelude.{ℕ, ◌≡◌, ◌⊎◌, ◌+◌, Option, Err, List, All}
 use Rattle.source_port.specs.Library.{Library}
 use Rattle.tile_types.specs.declared.key.Key.{Key}
 use Rattle.doc_store.specs.Store.{Stored}
@@ -10,9 +10,9 @@ use Rattle.cut_core.specs.Visits.{VisitsTooMany}
 use Rattle.plain_tree.specs.Trees.{stored_tree}
 use Rattle.tileset_schema.specs.Documents.{document}
 use Rattle.stream_cli.specs.Awaited.{IsEarlier, WasAwaited}
-use Rattle.stream_cli.specs.Loading.{Fetches, IsAbsent, IsFault, IsLoadedFrom, IsRefused, asked_for}
+use Rattle.stream_cli.specs.Loading.{Fetches, IsAbsent, IsFault, IsLoadedFrom, IsRefused, IsShort, asked_for}
 use Rattle.stream_cli.specs.Looks.{EndsLook, OfCommand}
-use Rattle.stream_cli.specs.Sides.{OutRun, SourceRun}
+use Rattle.stream_cli.specs.Sides.{OutRun, SourceRun, Stays}
 use Rattle.stream_cli.specs.declared.cause.Cause.{Cause}
 use Rattle.stream_cli.specs.declared.cause.Cause.TheVariants as cause
 
@@ -26,11 +26,10 @@ IsReadCause root bytes _ = ⊥
 
 -- why a root document gives no store
 abbrev pub IsOpenCause : List ℕ → SourceRun → Cause → Type 0
-IsOpenCause root source cause.Memory = Unit {0}
+IsOpenCause root source cause.Memory = IsShort root source
 IsOpenCause root source (cause.Source count) = IsFault source count
 IsOpenCause root source (cause.Document error) = IsRefused root source error
-IsOpenCause root source (cause.RootAbsent why) =
-    IsAbsent why source.library root × Fetches source 1
+IsOpenCause root source (cause.RootAbsent why) = IsAbsent why root source
 IsOpenCause root source _ = ⊥
 
 -- ---- further documents
@@ -44,16 +43,16 @@ pub record AsksFor (library : Option Library) (wanted : Key → Type 0) (old new
   pub from_library : IsLoadedFrom library old → IsLoadedFrom library new
   pub asked : asked_for new ≡ asked_for old + more
 
--- the same, each by one fetch
+-- the same, each by one fetch, of which none failed
 pub record LoadsOn (source : SourceRun) (wanted : Key → Type 0) (old new : Stored) : Type 0 where
   pub more : ℕ
   pub asks : AsksFor source.library wanted old new more
   pub fetches : Fetches source more
-  pub counted : source.faults.before ≤ source.faults.after
+  pub unfailed : Stays source.faults
 
 -- why loading stops
 abbrev pub IsLoadCause : SourceRun → Cause → Type 0
-IsLoadCause source cause.Memory = Unit {0}
+IsLoadCause source cause.Memory = Stays source.faults
 IsLoadCause source (cause.Source count) = IsFault source count
 IsLoadCause source _ = ⊥
 
@@ -67,10 +66,16 @@ IsVisitCause view root _ = ⊥
 
 -- ---- the rounds
 
+-- so many documents were loaded, and a look at their tree ended so
+pub record LooksBehind (command : Command) (source : SourceRun) (old new : Stored) (out : OutRun)
+    (unprinted : Type 0) (cause : Cause) : Type 0 where
+  pub more : ℕ
+  pub asks : AsksFor source.library (WasAwaited command new) old new more
+  pub ends : EndsLook (OfCommand command (stored_tree new)) source more out unprinted cause
+
 -- how the rounds of a command end: loading stopped, and the output is as it was; or documents were
 -- loaded, and a look at their tree ended so
 abbrev pub EndsRounds : Command → SourceRun → Stored → Stored → OutRun → Type 0 → Cause → Type 0
 EndsRounds command source old new out unprinted cause =
     (IsLoadCause source cause × unprinted)
-    ⊎ (LoadsOn source (WasAwaited command new) old new
-    × EndsLook (OfCommand command (stored_tree new)) out unprinted cause)
+    ⊎ LooksBehind command source old new out unprinted cause

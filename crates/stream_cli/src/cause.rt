@@ -86,8 +86,8 @@ impl Cause {
         }
     }
 
-    /// What a run ends with where a further document wasn't fetched: none where it isn't there or
-    /// is too long, so that it is absent.
+    /// What a run ends with where a further document or a content wasn't fetched: none where it
+    /// isn't there or is too long, so that it is absent.
     pub fn of_load(error: FetchError, count: u64) -> Option<Cause>
         ensures { result ≡ load_cause error count }
     {

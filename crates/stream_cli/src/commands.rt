@@ -4,14 +4,14 @@ ghost use Rattle.std.specs.Prelude.{◌≡◌};
 ghost use Rattle.plain_tree.specs.Trees.{stored_tree};
 ghost use Rattle.stream_cli.specs.Looks.{Looks, OfCommand};
 ghost use Rattle.stream_cli.specs.Loading.{root_of};
-ghost use Rattle.stream_cli.specs.Sides.{out_run};
+ghost use Rattle.stream_cli.specs.Sides.{out_run, source_run};
 
 mod cut;
 mod tiles;
 
 use crate::look::Look;
 use doc_store::DocStore;
-use source_port::Sink;
+use source_port::{Sink, Source};
 use std::alloc::Global;
 use tile_uri::Address;
 use words_table::Command;
@@ -27,13 +27,21 @@ pub fn root_of(command: &Command) -> &Address
 }
 
 /// Looks at the tree of the loaded documents: prints what a command asks for of it, or says which
-/// documents that waits for.
-pub fn look<W: Sink>(alloc: Global, command: &Command, store: &DocStore, out: &mut W) -> Look
-    ensures { Looks (OfCommand command.now (stored_tree store.now))
+/// documents that waits for. What is printed of contents is fetched first.
+pub fn look<S: Source, W: Sink>(
+    alloc: Global,
+    command: &Command,
+    store: &DocStore,
+    source: &mut S,
+    out: &mut W,
+) -> Look
+    ensures looks { Looks (OfCommand command.now (stored_tree store.now))
+        (source_run S.library S.faults S.fetches source.old source.new)
         (out_run W.written W.faults W.puts out.old out.new) (out.new ≡ out.old) result }
+    ensures library { S.library source.new ≡ S.library source.old }
 {
     match command {
-        Command::Cut { view, .. } => cut::look(alloc, view, store, out),
+        Command::Cut { view, .. } => cut::look(alloc, view, store, source, out),
         Command::Tiles { .. } => tiles::look(alloc, store, out),
     }
 }

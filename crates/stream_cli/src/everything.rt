@@ -1,4 +1,4 @@
-//! Holdings for commands that fetch no content.
+//! Holdings in which every content is there.
 
 ghost use Rattle.stream_cli.specs.Awaited.{nothing_absent};
 

@@ -1,6 +1,6 @@
 //! The lines that list the tiles of a tree.
 
-ghost use Rattle.std.specs.Prelude.{◌≡◌, ◌++◌, ◌≤◌, All, IsTrue, OnOk, codes, map};
+ghost use Rattle.std.specs.Prelude.{◌≡◌, ◌++◌, All, IsTrue, OnOk, codes, map};
 ghost use Rattle.std.specs.Fmt.{signed_decimal};
 ghost use Rattle.std.specs.List.{flat_map};
 ghost use Rattle.expanded_tree.specs.Tree.{addresses_of};
@@ -148,9 +148,8 @@ fn put_node<W: Sink>(
     out: &mut W,
 ) -> Result<(), PutError>
     requires { IsTrue ((standing_of tree.now).is_valid node) }
-    ensures puts { PutsLines result (out_run W.written W.faults W.puts out.old out.new)
+    ensures { PutsLines result (out_run W.written W.faults W.puts out.old out.new)
         (listing.lines_of ((standing_of tree.now).node_tree node)) }
-    ensures counted { W.faults out.old ≤ W.faults out.new }
 {
     if tree.pending(node).is_some() {
         return Ok(());
@@ -178,10 +177,9 @@ fn put_contents<W: Sink>(
     out: &mut W,
 ) -> Result<(), PutError>
     requires { IsTrue ((standing_of tree.now).is_valid node) }
-    ensures puts { PutsLines result (out_run W.written W.faults W.puts out.old out.new)
+    ensures { PutsLines result (out_run W.written W.faults W.puts out.old out.new)
         (map (listing.content_line name.now)
         (addresses_of ((standing_of tree.now).node_tree node))) }
-    ensures counted { W.faults out.old ≤ W.faults out.new }
 {
     for i in 0..tree.content_count(node) {
         if write_content(line, name, tree.content(node, i)).is_err() {

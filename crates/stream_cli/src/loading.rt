@@ -29,7 +29,6 @@ pub fn open_store<S: Source>(
         (source_run S.library S.faults S.fetches source.old source.new)) }
     ensures refused { IfErr result (IsOpenCause root.now
         (source_run S.library S.faults S.fetches source.old source.new)) }
-    ensures counted { S.faults source.old ≤ S.faults source.new }
     ensures library { S.library source.new ≡ S.library source.old }
 {
     let mut bytes = Vec::new(alloc);

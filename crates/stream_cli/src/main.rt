@@ -4,8 +4,10 @@
 
 mod cause;
 mod commands;
+mod contents;
 mod ended;
 mod everything;
+mod fetching;
 mod listing;
 mod loading;
 mod look;

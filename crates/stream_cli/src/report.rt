@@ -1,75 +1,109 @@
 //! The texts that are printed.
 
-ghost use Rattle.std.specs.Prelude.{◌≡◌, OnOk, IfOk, map};
-ghost use Rattle.stream_cli.specs.Report.{count_line, cut_text, shown_line};
+ghost use Rattle.std.specs.Prelude.{◌≡◌, IfOk, length, string_bytes};
+ghost use Rattle.stream_cli.specs.Kept.{facts_at, kept_line, kept_lines, kept_text, lines_there};
 ghost use Rattle.stream_cli.specs.Printing.{PutsLines};
+ghost use Rattle.stream_cli.specs.Report.{count_line};
 ghost use Rattle.stream_cli.specs.Sides.{out_run};
 
-use cut_core::{CutLine, CutList};
+use crate::contents::ContentMap;
+use cut_core::CutLine;
+use frame_text::push_show_line;
 use itoa::Buffer;
 use source_port::{PutError, Sink};
 use std::alloc::{AllocError, Global};
 
 /// How many bytes a line has room for before it has to grow.
-const COMMON_LINE: usize = 128;
+const COMMON_LINE: usize = 256;
 
-/// Prints a cut: `cut COUNT`, and `show TILE` for each of its lines. Each printed line is one put.
-pub fn print_cut<W: Sink>(alloc: Global, lines: &CutList, out: &mut W) -> Result<(), PutError>
-    ensures { PutsLines result (out_run W.written W.faults W.puts out.old out.new)
-        (cut_text lines.now) }
-{
-    let Ok(mut line) = count_line(alloc, lines.len()) else {
-        return Err(PutError::OutOfMemory);
-    };
-    match out.put(alloc, line.as_slice()) {
-        Ok(()) => {}
-        Err(cause) => return Err(cause),
-    }
-    put_shown(alloc, &mut line, lines.as_slice(), out)
-}
-
-/// Puts `show TILE` for each line, each written in place of what the vector held.
-fn put_shown<W: Sink>(
+/// Prints a cut: `cut COUNT`, and `show TILE ADDRESS LENGTH DIGEST` for each of its lines whose
+/// content is there. Each printed line is one put.
+pub fn print_cut<W: Sink>(
     alloc: Global,
-    line: &mut Vec<u8>,
     lines: &[CutLine],
+    contents: &ContentMap,
     out: &mut W,
 ) -> Result<(), PutError>
     ensures { PutsLines result (out_run W.written W.faults W.puts out.old out.new)
-        (map shown_line lines.now) }
+        (kept_text contents.now lines.now) }
 {
-    for shown in lines {
-        if write_shown(line, shown).is_err() {
-            return Err(PutError::OutOfMemory);
+    let Ok(mut text) = count_line(alloc, count_there(lines, contents)) else {
+        return Err(PutError::OutOfMemory);
+    };
+    match out.put(alloc, text.as_bytes()) {
+        Ok(()) => put_shown(alloc, &mut text, lines, contents, out),
+        Err(cause) => Err(cause),
+    }
+}
+
+/// How many of these lines have a content that is there.
+fn count_there(lines: &[CutLine], contents: &ContentMap) -> usize
+    ensures { result ≡ length (lines_there contents.now lines.now) }
+{
+    let mut count = 0;
+    for line in lines {
+        if contents.facts_at(&line.address).is_some() {
+            count += 1;
         }
-        if let Err(cause) = out.put(alloc, line.as_slice()) {
-            return Err(cause);
+    }
+    count
+}
+
+/// Puts the line of each content that is there, each written in place of what the text held.
+fn put_shown<W: Sink>(
+    alloc: Global,
+    text: &mut String,
+    lines: &[CutLine],
+    contents: &ContentMap,
+    out: &mut W,
+) -> Result<(), PutError>
+    ensures { PutsLines result (out_run W.written W.faults W.puts out.old out.new)
+        (kept_lines contents.now lines.now) }
+{
+    for line in lines {
+        match put_line(alloc, text, line, contents, out) {
+            Ok(()) => {}
+            Err(cause) => return Err(cause),
         }
     }
     Ok(())
 }
 
-/// The line `cut COUNT`, in a vector with room for the common line.
-#[tactic(auto, unfolding(crate::specs::Report::count_line))]
-fn count_line(alloc: Global, count: usize) -> Result<Vec<u8>, AllocError>
-    ensures { IfOk result (λ line. line.items ≡ count_line count) }
+/// Puts the line of a content, if it is there.
+fn put_line<W: Sink>(
+    alloc: Global,
+    text: &mut String,
+    line: &CutLine,
+    contents: &ContentMap,
+    out: &mut W,
+) -> Result<(), PutError>
+    ensures { PutsLines result (out_run W.written W.faults W.puts out.old out.new)
+        (kept_line line.now (facts_at contents.now line.now.address)) }
 {
-    let mut digits = Buffer::new();
-    let mut line = Vec::with_capacity(alloc, COMMON_LINE)?;
-    line.extend_from_slice(b"cut ")?;
-    line.extend_from_slice(digits.format(count).as_bytes())?;
-    line.extend_from_slice(b"\n")?;
-    Ok(line)
+    let Some(facts) = contents.facts_at(&line.address) else {
+        return Ok(());
+    };
+    text.clear();
+    let tile = line.tile.as_str();
+    let address = line.address.as_str();
+    if push_show_line(text, tile, address, facts.length, &facts.digest).is_err() {
+        return Err(PutError::OutOfMemory);
+    }
+    match out.put(alloc, text.as_bytes()) {
+        Ok(()) => Ok(()),
+        Err(cause) => Err(cause),
+    }
 }
 
-/// Puts the line `show TILE` in place of what the vector held.
-#[tactic(auto, unfolding(crate::specs::Report::shown_line))]
-fn write_shown(line: &mut Vec<u8>, shown: &CutLine) -> Result<(), AllocError>
-    ensures { OnOk result (line.new.items ≡ shown_line shown.now) }
+/// The line `cut COUNT`, in a text with room for the common line.
+#[tactic(auto, unfolding(crate::specs::Report::count_line))]
+fn count_line(alloc: Global, count: usize) -> Result<String, AllocError>
+    ensures { IfOk result (λ text. string_bytes text ≡ count_line count) }
 {
-    line.clear();
-    line.extend_from_slice(b"show ")?;
-    line.extend_from_slice(shown.tile.as_str().as_bytes())?;
-    line.extend_from_slice(b"\n")?;
-    Ok(())
+    let mut digits = Buffer::new();
+    let mut text = String::with_capacity(alloc, COMMON_LINE)?;
+    text.push_str("cut ")?;
+    text.push_str(digits.format(count))?;
+    text.push_str("\n")?;
+    Ok(text)
 }

@@ -29,7 +29,7 @@ pub fn run_rounds<S: Source, W: Sink>(
 {
     // Each round asks for a document of which nothing was known, and no store holds 2^64 of them.
     for _ in 0..u64::MAX {
-        let keys = match look(alloc, command, store, out) {
+        let keys = match look(alloc, command, store, source, out) {
             Look::Awaits(keys) => keys,
             Look::Ended(cause) => return cause,
         };

@@ -1,6 +1,7 @@
 //! Runs over documents in memory. What is expected of addresses is what another implementation of
 //! the URL Standard answers; texts and numbers are worked out by hand.
 
+mod contents;
 mod cut;
 mod edges;
 mod loading;
@@ -47,6 +48,7 @@ struct Row<'a> {
     name: &'a str,
     words: &'a [&'a str],
     files: &'a [File<'a>],
+    contents: &'a [File<'a>],
     /// The numbers of the fetches and of the puts that fail.
     failing_fetches: &'a [u64],
     failing_puts: &'a [u64],
@@ -60,11 +62,36 @@ const PLAIN: Row<'static> = Row {
     name: "",
     words: &TILES,
     files: &[],
+    contents: &[],
     failing_fetches: &[],
     failing_puts: &[],
     status: 0,
     fault: "",
     text: "",
+};
+
+/// Contents of three bytes, of five and of one.
+const THREE_BYTES: File<'static> = File {
+    address: "http://tiles/a.glb",
+    pieces: &["abc"],
+};
+
+const FIVE_BYTES: File<'static> = File {
+    address: "http://tiles/b.glb",
+    pieces: &["hello"],
+};
+
+const ONE_BYTE: File<'static> = File {
+    address: "http://tiles/c.glb",
+    pieces: &["a"],
+};
+
+const CONTENTS: [File<'static>; 3] = [THREE_BYTES, FIVE_BYTES, ONE_BYTE];
+
+/// A run over these contents.
+const LOADED: Row<'static> = Row {
+    contents: &CONTENTS,
+    ..PLAIN
 };
 
 fn named_file(alloc: Global, file: &File) -> Result<NamedFile, AllocError> {
@@ -78,9 +105,13 @@ fn named_file(alloc: Global, file: &File) -> Result<NamedFile, AllocError> {
     })
 }
 
-fn files(alloc: Global, given: &[File]) -> Result<FileList, AllocError> {
+/// The documents and the contents.
+fn files(alloc: Global, given: &[File], contents: &[File]) -> Result<FileList, AllocError> {
     let mut files = FileList::new(alloc);
     for it in given {
+        files.push(named_file(alloc, it)?)?;
+    }
+    for it in contents {
         files.push(named_file(alloc, it)?)?;
     }
     Ok(files)
@@ -106,7 +137,7 @@ fn check_over<R: AllocGlobal + Abort + Threads + Sync, S: Source>(
 /// Runs a row over its files in memory.
 fn check<R: AllocGlobal + Abort + Threads + Sync>(rt: &R, row: &Row) -> Result<(), Fail> {
     let failing = NumberList::from_slice(rt.alloc(), row.failing_fetches)?;
-    let mut source = MemorySource::new(files(rt.alloc(), row.files)?, failing);
+    let mut source = MemorySource::new(files(rt.alloc(), row.files, row.contents)?, failing);
     check_over(rt, row, &mut source)
 }
 

@@ -6,11 +6,12 @@ ghost use Rattle.plain_tree.specs.Standing.{standing_of};
 ghost use Rattle.plain_tree.specs.Trees.{stored_tree};
 ghost use Rattle.stream_cli.specs.Awaited.{awaited_in_view};
 ghost use Rattle.stream_cli.specs.Looks.{EndsLook, Looks, OfCut};
-ghost use Rattle.stream_cli.specs.Sides.{out_run};
+ghost use Rattle.stream_cli.specs.Sides.{out_run, source_run};
 ghost use Rattle.stream_cli.specs.Steps.{IsVisitCause};
 
 use crate::cause::Cause;
 use crate::everything::EverythingThere;
+use crate::fetching::fetch_contents;
 use crate::look::Look;
 use crate::printing::cause_of;
 use crate::report::print_cut;
@@ -18,24 +19,33 @@ use cut_core::{ideal, want};
 use doc_store::DocStore;
 use error_test::View;
 use plain_tree::PlainTree;
-use source_port::Sink;
+use source_port::{Sink, Source};
 use std::alloc::{AllocError, Global};
 use tile_types::{Key, WantList};
 
-/// Prints the ideal cut of a view, or says which documents the visited nodes wait for.
-pub(crate) fn look<W: Sink>(alloc: Global, view: &View, store: &DocStore, out: &mut W) -> Look
-    ensures { Looks (OfCut view.now (stored_tree store.now))
+/// Fetches the contents of the ideal cut of a view and prints it, or says which documents the
+/// visited nodes wait for.
+pub(crate) fn look<S: Source, W: Sink>(
+    alloc: Global,
+    view: &View,
+    store: &DocStore,
+    source: &mut S,
+    out: &mut W,
+) -> Look
+    ensures looks { Looks (OfCut view.now (stored_tree store.now))
+        (source_run S.library S.faults S.fetches source.old source.new)
         (out_run W.written W.faults W.puts out.old out.new) (out.new ≡ out.old) result }
+    ensures library { S.library source.new ≡ S.library source.old }
 {
     let Ok(mut tree) = PlainTree::build_whole(alloc, store) else {
         return Look::Ended(Cause::Memory);
     };
     // A tree of which no node waits needs no walk to tell which visited nodes do.
     if tree.is_whole() {
-        return Look::Ended(print_ideal(alloc, view, &mut tree, out));
+        return Look::Ended(print_ideal(alloc, view, &mut tree, source, out));
     }
     match keys_awaited(alloc, view, &mut tree) {
-        Ok(None) => Look::Ended(print_ideal(alloc, view, &mut tree, out)),
+        Ok(None) => Look::Ended(print_ideal(alloc, view, &mut tree, source, out)),
         Ok(Some(keys)) => Look::Awaits(keys),
         Err(cause) => Look::Ended(cause),
     }
@@ -77,15 +87,28 @@ fn keys_of(alloc: Global, wants: &WantList) -> Result<Vec<Key>, AllocError>
     Ok(keys)
 }
 
-/// Prints the ideal cut of a view that visits no node that waits for a document.
-fn print_ideal<W: Sink>(alloc: Global, view: &View, tree: &mut PlainTree<'_>, out: &mut W) -> Cause
+/// Fetches the contents of the ideal cut of a view that visits no node that waits for a document,
+/// and prints it. Which tiles it shows doesn't depend on which contents are absent: so one walk with
+/// every content there finds them, and the lines of absent contents are left out.
+fn print_ideal<S: Source, W: Sink>(
+    alloc: Global,
+    view: &View,
+    tree: &mut PlainTree<'_>,
+    source: &mut S,
+    out: &mut W,
+) -> Cause
     requires { IsLoaded view.now (standing_of tree.old).tree }
-    ensures { EndsLook (OfCut view.now (standing_of tree.old).tree)
+    ensures ends { EndsLook (OfCut view.now (standing_of tree.old).tree)
+        (source_run S.library S.faults S.fetches source.old source.new) 0
         (out_run W.written W.faults W.puts out.old out.new) (out.new ≡ out.old) result }
+    ensures library { S.library source.new ≡ S.library source.old }
 {
     let lines = match ideal(alloc, tree, &EverythingThere, view) {
         Ok(lines) => lines,
         Err(error) => return Cause::of_walk(error),
     };
-    cause_of(print_cut(alloc, &lines, out), out)
+    match fetch_contents(alloc, lines.as_slice(), source) {
+        Ok(contents) => cause_of(print_cut(alloc, lines.as_slice(), &contents, out), out),
+        Err(cause) => cause,
+    }
 }

@@ -5,9 +5,9 @@ ghost use Rattle.plain_tree.specs.Standing.{standing_of};
 ghost use Rattle.plain_tree.specs.Trees.{stored_tree};
 ghost use Rattle.stream_cli.specs.Awaited.{awaited_anywhere};
 ghost use Rattle.stream_cli.specs.Listing.{listing};
-ghost use Rattle.stream_cli.specs.Looks.{Looks, OfTiles};
+ghost use Rattle.stream_cli.specs.Looks.{IsIdle, Looks, OfTiles};
 ghost use Rattle.stream_cli.specs.Printing.{IsPrintCause};
-ghost use Rattle.stream_cli.specs.Sides.{out_run};
+ghost use Rattle.stream_cli.specs.Sides.{SourceRun, out_run};
 
 use crate::cause::Cause;
 use crate::listing::put_tiles;
@@ -20,9 +20,10 @@ use source_port::Sink;
 use std::alloc::{AllocError, Global};
 use tile_types::Key;
 
-/// Prints the tiles of the tree, or says which documents its nodes wait for.
+/// Prints the tiles of the tree, or says which documents its nodes wait for. No content is fetched,
+/// whatever the source is.
 pub(crate) fn look<W: Sink>(alloc: Global, store: &DocStore, out: &mut W) -> Look
-    ensures { Looks (OfTiles (stored_tree store.now))
+    ensures { (source : SourceRun) → IsIdle source 0 → Looks (OfTiles (stored_tree store.now)) source
         (out_run W.written W.faults W.puts out.old out.new) (out.new ≡ out.old) result }
 {
     let tree = match PlainTree::build(alloc, store) {

@@ -1,10 +1,12 @@
 //! The edges of a run: its printed lines, its words and its end.
 
-use super::{CUT, File, ROOT, TILE, TOP, files};
+use super::{CONTENTS, CUT, File, ROOT, TILE, TOP, files};
 use crate::cause::{Cause, NotHere};
+use crate::contents::ContentMap;
 use crate::ended::Ended;
 use crate::program::{finish, read_arguments, run_arguments};
 use crate::report::print_cut;
+use content_digest::ContentFacts;
 use cut_core::{CutLine, CutList};
 use source_port::{MemorySink, NumberList, PutError, SteadySource, Text};
 use std::io;
@@ -22,12 +24,20 @@ fn each_line_is_one_put(rt: HostRuntime) -> Result<(), Fail> {
             address: Text::new(alloc, "b.glb")?,
         })?;
     }
-    let texts = ["", "cut 2\n", "cut 2\nshow r/0\n"];
+    let mut contents = ContentMap::new(alloc);
+    let facts = ContentFacts::of(b"hello");
+    contents.add(Text::new(alloc, "b.glb")?, Some(facts))?;
+    let texts = [
+        "",
+        "cut 2\n",
+        "cut 2\n\
+        show r/0 b.glb 5 2cf24dba5fb0a30e26e83b2ac5b9e29e1b161e5c1fa7425e73043362938b9824\n",
+    ];
     for (done, text) in texts.iter().enumerate() {
         let failing = NumberList::from_slice(alloc, &[done as u64 + 1])?;
         let mut out = MemorySink::new(alloc, failing);
         assert_eq!(rt;
-            print_cut(alloc, &lines, &mut out),
+            print_cut(alloc, lines.as_slice(), &contents, &mut out),
             Err(PutError::SinkFailed)
         );
         assert_eq!(rt; out.bytes(), text.as_bytes(), "behind {done} puts");
@@ -50,12 +60,14 @@ fn the_words_of_the_program(rt: HostRuntime) -> Result<(), Fail> {
         given.push(String::from_str(alloc, word)?)?;
     }
     let given = read_arguments(alloc, Ok(given.into_iter()));
-    let mut source = SteadySource::new(files(alloc, &ONE)?);
+    let mut source = SteadySource::new(files(alloc, &ONE, &CONTENTS)?);
     let mut out = MemorySink::new(alloc, NumberList::new(alloc));
     let given = given.unwrap_or(Vec::new(alloc));
     let ended = run_arguments(&rt, alloc, &given, &mut source, &mut out);
     assert_eq!(rt; ended.cause, Cause::Done);
-    assert_eq!(rt; out.bytes(), b"cut 1\nshow r\n".as_slice());
+    let text = "cut 1\nshow r http://tiles/a.glb 3 \
+        ba7816bf8f01cfea414140de5dae2223b00361a396177a9cb410ff61f20015ad\n";
+    assert_eq!(rt; out.bytes(), text.as_bytes());
     for (kind, cause) in [
         (io::ErrorKind::InvalidData, Cause::Words),
         (io::ErrorKind::OutOfMemory, Cause::Memory),

@@ -23,6 +23,11 @@ const NESTED: [File; 2] = [ROOT_BELOW, BELOW];
 
 const NOT_THERE: [File; 1] = [ROOT_BELOW];
 
+const CONTENT_BELOW: [File; 1] = [File {
+    address: "http://tiles/sub/a.glb",
+    pieces: &["abc"],
+}];
+
 /// A document that isn't read below the root, and two that name each other.
 const REFUSED: [File; 2] = [
     File {
@@ -117,7 +122,9 @@ static ROWS: [Row; 6] = [
         name: "a cut through a document below",
         words: &CUT,
         files: &NESTED,
-        text: "cut 1\nshow r/0\n",
+        contents: &CONTENT_BELOW,
+        text: "cut 1\nshow r/0 http://tiles/sub/a.glb 3 \
+            ba7816bf8f01cfea414140de5dae2223b00361a396177a9cb410ff61f20015ad\n",
         ..PLAIN
     },
 ];

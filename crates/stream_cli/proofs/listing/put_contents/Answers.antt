@@ -9,13 +9,15 @@ use Rattle.stream_cli.proofs.Prefixes.{appends_both}
 use Rattle.stream_cli.proofs.Puts.{counts_on, puts_all, side_at, stops_at, stops_before}
 use Rattle.stream_cli.proofs.listing.put_contents.Goals as goal
 
-pub returns-then-is_err-clause-puts : goal.returns-then-is_err-clause-puts
-returns-then-is_err-clause-puts g c =
-    let addresses = addresses_of ((standing_of c.args.tree.now).node_tree c.args.node) in
-    stops_before (content_line c.args.name.now) addresses c.loop-i.i _ _ c.loop-i.invariant.put
+pub returns-then-is_err : goal.returns-then-is_err
+returns-then-is_err g c =
+    let addresses = addresses_of ((standing_of c.args.tree.now).node_tree c.args.node) in (
+      c.loop-i.invariant.unfailed,
+      stops_before (content_line c.args.name.now) addresses c.loop-i.i _ _ c.loop-i.invariant.put,
+    )
 
-pub returns-in-Err-clause-puts : goal.returns-in-Err-clause-puts
-returns-in-Err-clause-puts g c =
+pub returns-in-Err : goal.returns-in-Err
+returns-in-Err g c =
     let side = side_at g.W.Sink.written g.W.Sink.faults g.W.Sink.puts in
     let print = content_line c.args.name.now in
     let addresses = addresses_of ((standing_of c.args.tree.now).node_tree c.args.node) in
@@ -25,7 +27,7 @@ returns-in-Err-clause-puts g c =
     (side c.loop-i.out) (side c.put.new.self)
     (omega (arith, c.loop-i-test.true, c.content_count-i-end.ensures))
     (sym (get_or_from_slice_get addresses c.loop-i.i address address c.content.ensures))
-    c.loop-i.invariant.put c.loop-i.invariant.counted (rw line at c.in-Err.ensures.written)
+    c.loop-i.invariant.put c.loop-i.invariant.unfailed (rw line at c.in-Err.ensures.written)
     c.in-Err.ensures.faults
 
 pub loop-i-preserved : goal.loop-i-preserved
@@ -41,14 +43,14 @@ loop-i-preserved g c =
       puts =
           c.in-Ok.ensures.puts ∙ ap next_count c.loop-i.invariant.puts
           ∙ counts_on c.loop-i.i (g.W.Sink.puts c.args.out.now);
-      counted = omega (arith, c.loop-i.invariant.counted, c.in-Ok.ensures.faults);
+      unfailed = c.in-Ok.ensures.faults ∙ c.loop-i.invariant.unfailed;
     }
 
-pub returns-clause-puts : goal.returns-clause-puts
-returns-clause-puts g c =
+pub returns : goal.returns
+returns g c =
     let addresses = addresses_of ((standing_of c.args.tree.now).node_tree c.args.node) in
     let all = puts_all (content_line c.args.name.now) addresses c.loop-i.i _ _ _ _
     (omega (arith, c.loop-i-test.false, c.content_count-i-end.ensures))
     (omega (arith, c.loop-i.auto.i-end, c.content_count-i-end.ensures))
     c.loop-i.invariant.put c.loop-i.invariant.puts in
-    record { gained = all.0; puts = all.1 }
+    record { gained = all.0; puts = all.1; unfailed = c.loop-i.invariant.unfailed }

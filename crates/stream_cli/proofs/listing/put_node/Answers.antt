@@ -6,8 +6,8 @@ use Rattle.stream_cli.proofs.Lines.{no_key, tile_lines}
 use Rattle.stream_cli.proofs.Puts.{side_at, stops_first, then_others}
 use Rattle.stream_cli.proofs.listing.put_node.Goals as goal
 
-pub returns-in-Ok-put-clause-puts : goal.returns-in-Ok-put-clause-puts
-returns-in-Ok-put-clause-puts g c =
+pub returns-in-Ok-put : goal.returns-in-Ok-put
+returns-in-Ok-put g c =
     let side = side_at g.W.Sink.written g.W.Sink.faults g.W.Sink.puts in
     let t = (standing_of c.args.tree.now).node_tree c.args.node in
     let first : c.as_slice.result.now ≡ tile_line (name_of t) (facts_of t) = search rules in
@@ -18,10 +18,10 @@ returns-in-Ok-put-clause-puts g c =
     (map (content_line (name_of t)) (addresses_of t)) (side c.args.out.now) (side c.put.new.self)
     (side c.put_contents.new.out) (rw first at c.in-Ok-put.ensures.written)
     c.in-Ok-put.ensures.faults c.in-Ok-put.ensures.puts
-    (rw c.in-Ok.ensures at c.put_contents.ensures.puts))
+    (rw c.in-Ok.ensures at c.put_contents.ensures))
 
-pub returns-clause-puts : goal.returns-clause-puts
-returns-clause-puts g c =
+pub returns : goal.returns
+returns g c =
     let side = side_at g.W.Sink.written g.W.Sink.faults g.W.Sink.puts in
     let t = (standing_of c.args.tree.now).node_tree c.args.node in
     let first : c.as_slice.result.now ≡ tile_line (name_of t) (facts_of t) = search rules in

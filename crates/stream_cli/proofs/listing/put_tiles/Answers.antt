@@ -1,4 +1,4 @@
-use Rattle.std.proofs.Common.{arith, get_or, sym}
+use Rattle.std.proofs.Common.{get_or, sym}
 use Rattle.std.proofs.lemmas.Option.{get_or_from_slice_get, slice_get-get_or}
 use Rattle.expanded_tree.specs.declared.node.Node.{Node}
 use Rattle.plain_tree.specs.Standing.{standing_of}
@@ -19,7 +19,7 @@ returns-in-Err g c =
     stops_at_one (λ n. lines_of ((standing_of c.args.tree.now).node_tree n)) nodes
     c.in-Err.cause i node (side c.args.out.now) (side c.loop-node.out) (side c.put_node.new.out)
     c.loop-node-test.true (sym (get_or_from_slice_get nodes i node node at))
-    c.loop-node.invariant.put c.loop-node.invariant.counted c.in-Err.ensures.puts
+    c.loop-node.invariant c.in-Err.ensures
 
 pub loop-node-preserved : goal.loop-node-preserved
 loop-node-preserved g c =
@@ -28,11 +28,7 @@ loop-node-preserved g c =
     let i = c.loop-node.node-index in
     let node = get_or nodes i first_node in
     let at = slice_get-get_or nodes i first_node c.loop-node-test.true in
-    record {
-      put =
-          gains_more (λ n. lines_of ((standing_of c.args.tree.now).node_tree n)) nodes i node
-          (side c.args.out.now) (side c.loop-node.out) (side c.put_node.new.out)
-          c.loop-node-test.true (sym (get_or_from_slice_get nodes i node node at))
-          c.loop-node.invariant.put c.loop-node.invariant.counted c.in-Ok.ensures.puts;
-      counted = omega (arith, c.loop-node.invariant.counted, c.in-Ok.ensures.counted);
-    }
+    gains_more (λ n. lines_of ((standing_of c.args.tree.now).node_tree n)) nodes i node
+    (side c.args.out.now) (side c.loop-node.out) (side c.put_node.new.out)
+    c.loop-node-test.true (sym (get_or_from_slice_get nodes i node node at))
+    c.loop-node.invariant c.in-Ok.ensures

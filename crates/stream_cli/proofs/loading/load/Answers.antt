@@ -3,7 +3,7 @@ use Rattle.source_port.specs.Fetches.{Answers}
 use Rattle.source_port.specs.Library.{HasBytes}
 use Rattle.doc_store.specs.declared.limits.TheConstants.{DOCUMENT_LIMIT}
 use Rattle.stream_cli.proofs.Loads.{asks_absent, asks_weaker, loads_nothing, loads_one, on_ok, side_of}
-use Rattle.stream_cli.proofs.Refusals.{load_absent}
+use Rattle.stream_cli.proofs.Refusals.{load_absent, load_stops, memory_stops}
 use Rattle.stream_cli.proofs.loading.load.Goals as goal
 
 pub returns-then-ne-clause-loads : goal.returns-then-ne-clause-loads
@@ -47,3 +47,16 @@ returns-in-None-clause-loads g c =
     c.reserve.ensures.gone absent.faults absent.fetches
     (asks_absent library (λ k. k ≡ c.args.key.now) store c.mark_absent.new.self key
     c.in-Ok.ensures.value c.mark_absent.ensures.loaded c.mark_absent.ensures.gone absent.why)
+
+pub returns-in-Ok-fetch-clause-stops : goal.returns-in-Ok-fetch-clause-stops
+returns-in-Ok-fetch-clause-stops g c =
+    let side = side_of g.S.LibraryName.library g.S.Source.faults g.S.Source.fetches in
+    memory_stops c.keep.result (side c.args.source.now) (side c.fetch.new.self)
+    c.keep.ensures.memory c.in-Ok-fetch.ensures.faults
+
+pub returns-in-Some-clause-stops : goal.returns-in-Some-clause-stops
+returns-in-Some-clause-stops g c =
+    let side = side_of g.S.LibraryName.library g.S.Source.faults g.S.Source.fetches in
+    load_stops c.in-Err.error (side c.args.source.now) (side c.fetch.new.self) c.faults.result
+    c.in-Some.cause c.in-Err.ensures.faults c.in-Err.ensures.fetches c.faults.ensures
+    (sym c.of_load.ensures ∙ c.in-Some.is)

@@ -34,6 +34,6 @@ loop-key-preserved g c =
 pub returns-in-Err-clause-stops : goal.returns-in-Err-clause-stops
 returns-in-Err-clause-stops g c =
     let side = side_of g.S.LibraryName.library g.S.Source.faults g.S.Source.fetches in
-    stops_behind (Contains c.args.keys.now) (side c.args.source.now) (side c.loop-key.source)
-    (side c.load.new.source) c.args.store.now c.loop-key.store c.in-Err.cause
-    c.loop-key.invariant.loads c.in-Err.ensures.stops
+    let loads = c.loop-key.invariant.loads in
+    stops_behind (side c.args.source.now) (side c.loop-key.source) (side c.load.new.source)
+    loads.more c.in-Err.cause loads.fetches loads.unfailed c.in-Err.ensures.stops
