@@ -69,13 +69,14 @@ kind_refl Tileset = refl
 kind_refl (Subtree o l c) =
     and_both (beq o o) _ (beq_refl o) (and_both (l == l) _ (eq-eqb l l refl) (eq-eqb c c refl))
 
-key_is : (a b : Key) → same_key a b ≡ true → a ≡ b
+-- keys that are the same are equal, and each is the same as itself
+pub key_is : (a b : Key) → same_key a b ≡ true → a ≡ b
 key_is a b e =
     ap (λ k. key_with k a.address) (kind_is a.kind b.kind (and_left _ _ e))
     ∙ ap (key_with b.kind) (texts_agree a.address b.address
     (sym (and_right (same_kind a.kind b.kind) _ e)))
 
-key_refl : (a : Key) → same_key a a ≡ true
+pub key_refl : (a : Key) → same_key a a ≡ true
 key_refl a = and_both (same_kind a.kind a.kind) _ (kind_refl a.kind)
     (nat_list_eq_equiv.refl a.address)
 

@@ -14,8 +14,8 @@ pub enum Kind {
     Content,
     /// A tileset document.
     Tileset,
-    /// A binary subtree: of an octree or a quadtree, its levels and its contents for each tile. No
-    /// document that is read so far leads to one.
+    /// A binary subtree: of an octree or a quadtree, its levels, and how many contents each tile
+    /// may have.
     Subtree {
         octree: bool,
         levels: u8,

@@ -1,6 +1,6 @@
 //! Which want is loaded first.
 
-/// Which of the wanted keys is loaded first. The queue of loads, which is still to come, ranks by it.
+/// Which of the wanted keys is loaded first. The queue of loads ranks by it.
 #[derive(Clone, Copy, Debug, PartialEq, Eq)]
 pub enum Order {
     /// The nearest.

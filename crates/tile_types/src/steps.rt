@@ -5,8 +5,8 @@ ghost use Rattle.std.specs.Prelude.{◌≡◌, ◌+◌};
 use std::marker::Model;
 use std::sync::ledger::{Blank, Book, Ledger, Share};
 
-/// How many steps were taken. It takes no bytes, and only `tick` changes it. Reading availability bits,
-/// which is still to come, counts its steps by it.
+/// How many steps were taken. It takes no bytes, and only `tick` changes it. Each availability bit
+/// that is read counts as one step.
 #[derive(Drop)]
 pub struct Steps<L: Ledger> {
     book: Book<L>,
