@@ -1,4 +1,5 @@
 pub mod Bests
 pub mod Changes
 pub mod Keys
+pub mod References
 pub mod Trees

@@ -13,9 +13,9 @@ pub fn are_keys_distinct(alloc: Global, wants: &WantList) -> Result<bool, AllocE
     ensures { IfOk result (λ distinct. IsTrue distinct
         ↔ IsDistinct same_key (map (λ want. want.key) wants.now)) }
 {
-    let mut seen: IndexSet<Key> = IndexSet::new(alloc);
+    let mut seen: IndexSet<&Key> = IndexSet::with_capacity(alloc, wants.len())?;
     for want in wants.as_slice() {
-        if !seen.insert(want.key.copy(alloc)?)? {
+        if !seen.insert(&want.key)? {
             return Ok(false);
         }
     }

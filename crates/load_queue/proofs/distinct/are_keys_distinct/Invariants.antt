@@ -6,6 +6,6 @@ use Rattle.load_queue.proofs.distinct.are_keys_distinct.Given as goal
 -- the keys so far are distinct
 abbrev pub invariant-loop-want : goal.invariant-loop-want
 invariant-loop-want l = record {
-  keys : l.seen.keys ≡ take l.want-index (map (λ want. want.key) l.wants);
-  apart : IsDistinct same_key l.seen.keys;
+  keys : map (λ key. key.now) l.seen.keys ≡ take l.want-index (map (λ want. want.key) l.wants);
+  apart : IsDistinct same_key (map (λ key. key.now) l.seen.keys);
 }
