@@ -33,3 +33,4 @@ pub mod Spelled
 pub mod Built
 pub mod NumberLaw
 pub mod DecimalLaw
+pub mod Wholes

@@ -18,3 +18,6 @@ pub mod Parts
 pub mod Handles
 pub mod Named
 pub mod Decimals
+pub mod WholeNumbers
+pub mod WholeSizes
+pub mod FirstCauses

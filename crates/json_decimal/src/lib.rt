@@ -21,10 +21,12 @@ mod nesting;
 mod numbers;
 mod object;
 mod parser;
+mod places;
 mod primitives;
 mod scan;
 mod short_numbers;
 mod strings;
+mod whole;
 
 pub use error::JsonError;
 pub use form::JsonForm;
@@ -35,10 +37,11 @@ pub use json_ref::JsonRef;
 pub use json_string::{EscapedString, JsonString};
 pub use json_text::JsonText;
 pub use laws::numbers_are_decimals;
-pub use limits::{MAX_LENGTH, MAX_NESTING};
+pub use limits::{MAX_LENGTH, MAX_NESTING, WHOLE_LIMIT};
 pub use list::JsonList;
 pub use object::JsonObject;
 pub use parser::{one_value, parse, value_is_spelled};
+pub use whole::{Whole, whole_of};
 
 #[cfg(test)]
 mod tests;

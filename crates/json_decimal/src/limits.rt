@@ -5,3 +5,6 @@ pub const MAX_NESTING: usize = 256;
 
 /// How many bytes a text may have.
 pub const MAX_LENGTH: usize = 0xFFFF_FFFF;
+
+/// The greatest size of a whole number that is told by its value.
+pub const WHOLE_LIMIT: u64 = 0x7FFF_FFFF_FFFF_FFFF;
