@@ -5,6 +5,7 @@ mod bits;
 mod error;
 mod gather;
 mod laws;
+mod limits;
 mod morton;
 mod spread;
 mod words;
@@ -12,6 +13,7 @@ mod words;
 pub use bits::Bits;
 pub use error::BitsError;
 pub use laws::{further_digits_add_nothing, places_have_their_own_numbers};
+pub use limits::{OCTREE_SUBTREE_LEVELS, QUADTREE_SUBTREE_LEVELS};
 pub use morton::{MORTON_DIGITS, morton2, morton3, unmorton2, unmorton3};
 
 #[cfg(test)]
