@@ -6,9 +6,9 @@ use Rattle.json_decimal.specs.JsonValue.{JsonValue}
 use Rattle.tile_types.specs.declared.refine.Refine.{Refine}
 use Rattle.volumes.specs.declared.volume.Volume.{Volume}
 use Rattle.tileset_schema.specs.ByValues.{are_common, parts_of}
-use Rattle.tileset_schema.specs.Causes.{Fails}
+use Rattle.tileset_schema.specs.Causes.{◌>>=◌, Fails}
 use Rattle.tileset_schema.specs.Named.{Values}
-use Rattle.tileset_schema.specs.Parts.{bounding_volume, geometric_error, own_refinement, contents}
+use Rattle.tileset_schema.specs.Parts.{addresses, bounding_volume, explicit, geometric_error, own_refinement}
 use Rattle.tileset_schema.specs.PartsBy.{parts_by}
 use Rattle.tileset_schema.specs.declared.error.DocumentError.{DocumentError}
 use Rattle.tileset_schema.proofs.Chains.{fails_first, fails_same}
@@ -17,18 +17,34 @@ pub record SaysNothingRare (values : Values) : Type 0 where
   pub request : values.viewer_request_volume ≡ None
   pub transform : values.transform ≡ None
   pub contents : values.contents ≡ None
+  pub implicit : values.implicit_tiling ≡ None
 
 pub nothing_rare : (values : Values) → IsTrue (are_common values) → SaysNothingRare values
-nothing_rare values h = go values.viewer_request_volume values.transform values.contents refl refl
-    refl h
+nothing_rare values h = go values.viewer_request_volume values.transform values.contents
+    values.implicit_tiling refl refl refl refl h
   where
-    go : (a b c : Option JsonValue) → values.viewer_request_volume ≡ a → values.transform ≡ b
-        → values.contents ≡ c
-        → IsTrue (is_none a && is_none b && is_none c) → SaysNothingRare values
-    go None None None e f g h = record { request = e; transform = f; contents = g }
-    go (Some v) b c e f g h = cc
-    go None (Some v) c e f g h = cc
-    go None None (Some v) e f g h = cc
+    go : (a b c d : Option JsonValue) → values.viewer_request_volume ≡ a → values.transform ≡ b
+        → values.contents ≡ c → values.implicit_tiling ≡ d
+        → IsTrue (is_none a && is_none b && is_none c && is_none d) → SaysNothingRare values
+    go None None None None e f g k h =
+        record { request = e; transform = f; contents = g; implicit = k }
+    go (Some v) b c d e f g k h = cc
+    go None (Some v) c d e f g k h = cc
+    go None None (Some v) d e f g k h = cc
+    go None None None (Some v) e f g k h = cc
+
+-- the addresses of the contents, where all before them is read
+pub contents_read : (base : List ℕ) (tile : ℕ) (values : Values) (volume : Volume) (error : ℕ)
+    (refine : Option Refine)
+    → IsTrue (are_common values)
+    → Ok volume ≡ bounding_volume tile values.bounding_volume
+    → Ok error ≡ geometric_error tile values.geometric_error
+    → own_refinement tile values.refine ≡ Ok refine
+    → (own : List (List ℕ)) → addresses base tile values.content None ≡ Ok own
+    → parts_of base tile values ≡ Ok (parts_by volume None error refine identity (explicit own))
+contents_read base tile values volume error refine common v g f own h =
+    let c = nothing_rare values common in
+    rw (← v, c.request, ← g, f, c.transform, c.contents, c.implicit, h) refl
 
 -- a cause of the contents, where all before them is read
 pub contents_fail : (base : List ℕ) (tile : ℕ) (values : Values) (volume : Volume) (error : ℕ)
@@ -38,10 +54,12 @@ pub contents_fail : (base : List ℕ) (tile : ℕ) (values : Values) (volume : V
     → Ok error ≡ geometric_error tile values.geometric_error
     → own_refinement tile values.refine ≡ Ok refine
     → (e : DocumentError)
-    → Fails e (contents base tile values.content None values.implicit_tiling)
+    → Fails e (addresses base tile values.content None)
     → Fails e (parts_of base tile values)
 contents_fail base tile values volume error refine common v g f e h =
     let c = nothing_rare values common in
-    fails_same e _ _ (sym (rw (← v, c.request, ← g, f, c.transform, c.contents) refl))
-    (fails_first e (contents base tile values.content None values.implicit_tiling)
-    (λ addresses. Ok (parts_by volume None error refine identity addresses)) h)
+    let own = addresses base tile values.content None in
+    fails_same e _ _ (sym (rw (← v, c.request, ← g, f, c.transform, c.contents, c.implicit) refl))
+    (fails_first e (own >>= λ addresses. Ok (explicit addresses))
+    (λ own. Ok (parts_by volume None error refine identity own))
+    (fails_first e own (λ addresses. Ok (explicit addresses)) h))

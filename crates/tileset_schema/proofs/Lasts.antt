@@ -1,8 +1,9 @@
 -- The last member of a name, one member after another.
-use Rattle.std.proofs.Common.{◌≡◌, ℕ, List, Bool, true, false, Option, Some, None, if◌then◌else◌, bytes_eq, codes, refl, ap, sym, ◌∙◌}
+use Rattle.std.proofs.Common.{◌≡◌, ℕ, List, Bool, true, false, Option, Some, None, if◌then◌else◌, bytes_eq, refl, ap, sym, ◌∙◌}
 use Rattle.json_decimal.specs.JsonValue.{JsonValue, later, last_of}
 use Rattle.json_decimal.specs.Parts.{split_first}
 use Rattle.json_decimal.proofs.Parted.{split_some}
+use Rattle.tileset_schema.specs.Added.{child_values, children_in}
 use Rattle.tileset_schema.specs.Named.{Values, no_values, last_values, with_last, with_member, with_members}
 use Rattle.tileset_schema.specs.ByValues.{parts_of}
 use Rattle.tileset_schema.specs.Parts.{Members, parts}
@@ -55,8 +56,10 @@ unfolding parts_at.parts
 parts_are base tile ms none own e h = ap (parts_of base tile)
     (h ∙ ap (λ values. with_members values ms) e ∙ fresh ms)
 
--- the value of its children
-pub children_are : (ms : Members) (none own : Values) → none ≡ no_values
-    → own ≡ with_members none ms → own.children ≡ last_of (codes "children") ms
-children_are ms none own e h = ap (λ values. values.children)
+-- the values of its children
+pub children_are : (tile : ℕ) (ms : Members) (none own : Values) → none ≡ no_values
+    → own ≡ with_members none ms
+    → child_values tile own.implicit_tiling own.children ≡ children_in tile ms
+children_are tile ms none own e h =
+    ap (λ (values : Values). child_values tile values.implicit_tiling values.children)
     (h ∙ ap (λ values. with_members values ms) e ∙ fresh ms)

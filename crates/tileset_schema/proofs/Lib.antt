@@ -3,6 +3,7 @@ mod Places
 mod Sixteens
 mod Chains
 mod Listed
+mod ImplicitTilings
 mod Trees
 mod Steps
 mod Following

@@ -1,14 +1,14 @@
 -- The steps of a tile, one after another, with the children by their values.
 use Rattle.std.proofs.Common.{◌≡◌, ℕ, ◌+◌, ◌<◌, nat_lt, List, [], ◌∷◌, ◌++◌, Result, Option, Some, None, Ok, Err, Bool, true, false, not, ◌&&◌, ◌||◌, if◌then◌else◌, bytes_eq, codes, arith, refl, ap, sym, ◌∙◌}
 use Rattle.std.specs.Option.{is_some}
-use Rattle.json_decimal.specs.JsonValue.{JsonValue, Pairs, null, truth, number, words, list, object, no_pairs, pair, values, pairs_of, last_of, later, values-list_of}
+use Rattle.json_decimal.specs.JsonValue.{JsonValue, Pairs, null, truth, number, words, list, object, no_pairs, pair, values, list_of, pairs_of, last_of, later, values-list_of}
 use Rattle.json_decimal.specs.Parts.{members_of}
 use Rattle.json_decimal.specs.declared.json_items.JsonItems.{JsonItems}
-use Rattle.tileset_schema.specs.Added.{AddsOne, alone, child_values, children_left, next_number, own_tile}
+use Rattle.tileset_schema.specs.Added.{AddsOne, alone, child_values, children_in, children_left, next_number, own_tile}
 use Rattle.tileset_schema.specs.Causes.{Read, ◌>>=◌, or_cause, seen_by, Fails}
 use Rattle.tileset_schema.specs.Parts.{Members, WrittenParts, parts}
 use Rattle.tileset_schema.specs.Preorder.{Row}
-use Rattle.tileset_schema.specs.Tiles.{WrittenTile, WrittenTiles, written, tile, children, listed, tiles, one_more, has_member}
+use Rattle.tileset_schema.specs.Tiles.{WrittenTile, WrittenTiles, written, tile, children, listed, tiles, may_have, one_more, has_member}
 use Rattle.tileset_schema.specs.declared.limits.TheConstants.{TILE_LIMIT}
 use Rattle.tileset_schema.specs.declared.error.DocumentError.{DocumentError}
 use Rattle.tileset_schema.specs.declared.error.DocumentError.TheVariants as cause
@@ -38,33 +38,42 @@ regroup (Ok x) f g = refl
 regroup (Err e) f g = refl
 
 -- the children that the value of `children` stands for
-abbrev pub below : List ℕ → ℕ → Option JsonValue → Read WrittenTiles
-below base n value = child_values n value >>= λ vs. tiles base (n + 1) (values vs)
+abbrev pub below : List ℕ → ℕ → Option JsonValue → Option JsonValue → Read WrittenTiles
+below base n tiling value = child_values n tiling value >>= λ vs. tiles base (n + 1) (values vs)
 
-listed-values : (base : List ℕ) (n : ℕ) (v : JsonValue) → listed base n v ≡ below base n (Some v)
-listed-values base n null = refl
-listed-values base n (truth b) = refl
-listed-values base n (number s) = refl
-listed-values base n (words s) = refl
-listed-values base n (list vs) = ap (tiles base (n + 1)) (sym (values-list_of vs))
-listed-values base n (object ms) = refl
+listed-values : (base : List ℕ) (n : ℕ) (tiling : Option JsonValue) (v : JsonValue)
+    → listed base n tiling v ≡ below base n tiling (Some v)
+listed-values base n tiling null = refl
+listed-values base n tiling (truth b) = refl
+listed-values base n tiling (number s) = refl
+listed-values base n tiling (words s) = refl
+listed-values base n tiling (list vs) = go (may_have n tiling (list_of vs))
+  where
+    go : (r : Read (Unit {0}))
+        → (r >>= λ u. tiles base (n + 1) vs)
+        ≡ ((r >>= λ u. Ok (list_of vs)) >>= λ us. tiles base (n + 1) (values us))
+    go (Ok u) = ap (tiles base (n + 1)) (sym (values-list_of vs))
+    go (Err e) = refl
+listed-values base n tiling (object ms) = refl
 
-children-values : (base : List ℕ) (n : ℕ) (ms : Pairs)
-    → children base n ms ≡ below base n (last_of (codes "children") (pairs_of ms))
-children-values base n no_pairs = refl
-children-values base n (pair key v ms) =
+children-values : (base : List ℕ) (n : ℕ) (tiling : Option JsonValue) (ms : Pairs)
+    → children base n tiling ms
+    ≡ below base n tiling (last_of (codes "children") (pairs_of ms))
+children-values base n tiling no_pairs = refl
+children-values base n tiling (pair key v ms) =
     ap by_behind (has-last (codes "children") ms)
     ∙ go (bytes_eq key (codes "children")) (last_of (codes "children") (pairs_of ms))
-    (children-values base n ms)
+    (children-values base n tiling ms)
   where
     by_behind : Bool → Read WrittenTiles
     by_behind has =
-        if bytes_eq key (codes "children") && not has then listed base n v else children base n ms
+        if bytes_eq key (codes "children") && not has then listed base n tiling v
+        else children base n tiling ms
 
-    go : (b : Bool) (o : Option JsonValue) → children base n ms ≡ below base n o
-        → (if b && not (is_some o) then listed base n v else children base n ms)
-        ≡ below base n (later o (if b then Some v else None))
-    go true None h = listed-values base n v
+    go : (b : Bool) (o : Option JsonValue) → children base n tiling ms ≡ below base n tiling o
+        → (if b && not (is_some o) then listed base n tiling v else children base n tiling ms)
+        ≡ below base n tiling (later o (if b then Some v else None))
+    go true None h = listed-values base n tiling v
     go true (Some w) h = h
     go false None h = h
     go false (Some w) h = h
@@ -99,8 +108,8 @@ module _ (base : List ℕ) (n : ℕ) where
   tile-own (object pairs) =
       let ms = pairs_of pairs in
       ap (λ kids. one_more n >>= λ u. parts base n ms >>= λ own. kids >>= λ ts. Ok (written own ts))
-      (children-values base n pairs)
-      ∙ regrouped (one_more n) (parts base n ms) (child_values n (last_of (codes "children") ms))
+      (children-values base n (last_of (codes "implicitTiling") ms) pairs)
+      ∙ regrouped (one_more n) (parts base n ms) (children_in n ms)
 
 module _ (base : List ℕ) (n : ℕ) (v : JsonValue) where
   pub own_fails : (e : DocumentError) → Fails e (own_tile base n v) → Fails e (tile base n v)
@@ -139,7 +148,7 @@ pub record IsOwn (n : ℕ) (v : JsonValue) (vs : List JsonValue) : Type 0 where
   pub few : n < TILE_LIMIT
   pub members : Members
   pub are : Some members ≡ members_of v
-  pub children : Ok vs ≡ child_values n (last_of (codes "children") members)
+  pub children : Ok vs ≡ children_in n members
 
 pub own_is : (base : List ℕ) (n : ℕ) (v : JsonValue) (own : WrittenParts) (vs : List JsonValue)
     → own_tile base n v ≡ Ok (own, vs) → IsOwn n v vs
@@ -150,7 +159,7 @@ own_is base n v own vs h = go (nat_lt n TILE_LIMIT) (members_of v) refl refl h
 
     ended : (ms : Members) → n < TILE_LIMIT → Some ms ≡ members_of v
         → (p : Read WrittenParts) (k : Read (List JsonValue))
-        → child_values n (last_of (codes "children") ms) ≡ k
+        → children_in n ms ≡ k
         → (p >>= λ q. k >>= λ us. paired q us) ≡ paired own vs → IsOwn n v vs
     ended ms few are (Err e) k same h = cc
     ended ms few are (Ok p) (Err e) same h = cc
@@ -163,13 +172,13 @@ own_is base n v own vs h = go (nat_lt n TILE_LIMIT) (members_of v) refl refl h
         → ((if b then Ok (tt {0}) else Err cause.TooManyTiles) >>= λ u.
         or_cause (cause.Shape TileField n) o >>= λ ms.
         parts base n ms >>= λ p.
-        child_values n (last_of (codes "children") ms) >>= λ us.
+        children_in n ms >>= λ us.
         paired p us) ≡ paired own vs
         → IsOwn n v vs
     go false o e k h = cc
     go true None e k h = cc
     go true (Some ms) e k h = ended ms (search (e, arith)) (sym k) (parts base n ms)
-        (child_values n (last_of (codes "children") ms)) refl h
+        (children_in n ms) refl h
 
 -- where there is room for it, and it is an object of these members
 module _ (base : List ℕ) (n : ℕ) (v : JsonValue) (few : n < TILE_LIMIT) (ms : Members)
@@ -184,7 +193,7 @@ module _ (base : List ℕ) (n : ℕ) (v : JsonValue) (few : n < TILE_LIMIT) (ms 
 
   at_parts : own_tile base n v
       ≡ (parts base n ms >>= λ own.
-      child_values n (last_of (codes "children") ms) >>= λ vs. Ok (own, vs))
+      children_in n ms >>= λ vs. Ok (own, vs))
   at_parts = with_limit _ ∙ rw (← are) refl
 
   pub parts_fail : (e : DocumentError) → Fails e (parts base n ms) → Fails e (own_tile base n v)
@@ -192,7 +201,7 @@ module _ (base : List ℕ) (n : ℕ) (v : JsonValue) (few : n < TILE_LIMIT) (ms 
 
   pub own_read : (own : WrittenParts) → parts base n ms ≡ Ok own
       → own_tile base n v
-      ≡ (child_values n (last_of (codes "children") ms) >>= λ vs. Ok (own, vs))
+      ≡ (children_in n ms >>= λ vs. Ok (own, vs))
   own_read own h = at_parts ∙ rw h refl
 
 pub adds_one : (old new : List Row) (result : Result (Option JsonItems) DocumentError)

@@ -5,9 +5,9 @@ use Rattle.json_decimal.specs.JsonValue.{JsonValue, last_of}
 use Rattle.json_decimal.specs.Parts.{items_of, members_of}
 use Rattle.json_decimal.specs.declared.json_items.JsonItems.{JsonItems}
 use Rattle.tileset_schema.specs.Causes.{Read, ◌>>=◌, or_cause, or_default, Fails}
-use Rattle.tileset_schema.specs.Parts.{WrittenParts, parts}
+use Rattle.tileset_schema.specs.Parts.{Members, WrittenParts, parts}
 use Rattle.tileset_schema.specs.Preorder.{Row, rows, all_rows}
-use Rattle.tileset_schema.specs.Tiles.{WrittenTile, WrittenTiles, one_more}
+use Rattle.tileset_schema.specs.Tiles.{WrittenTile, WrittenTiles, may_have, one_more}
 use Rattle.tileset_schema.specs.declared.error.DocumentError.{DocumentError}
 use Rattle.tileset_schema.specs.declared.error.DocumentError.TheVariants.{Shape}
 use Rattle.tileset_schema.specs.declared.field.Field.TheVariants.{Children, Tile as TileField}
@@ -16,12 +16,19 @@ use Rattle.tileset_schema.specs.declared.field.Field.TheVariants.{Children, Tile
 abbrev pub next_number : ℕ → Read ℕ
 next_number count = one_more count >>= λ u. Ok count
 
--- the values of the children, none where there is no such member
-abbrev pub child_list : ℕ → JsonValue → Read (List JsonValue)
-child_list tile v = or_cause (Shape Children tile) (items_of v)
+-- the values of the children, none where there is no such member; `tiling` is the member
+-- `implicitTiling`
+abbrev pub child_list : ℕ → Option JsonValue → JsonValue → Read (List JsonValue)
+child_list tile tiling v =
+    or_cause (Shape Children tile) (items_of v) >>= λ vs. may_have tile tiling vs >>= λ u. Ok vs
 
-abbrev pub child_values : ℕ → Option JsonValue → Read (List JsonValue)
-child_values tile value = or_default [] (child_list tile) value
+abbrev pub child_values : ℕ → Option JsonValue → Option JsonValue → Read (List JsonValue)
+child_values tile tiling value = or_default [] (child_list tile tiling) value
+
+-- those of a tile of these members
+abbrev pub children_in : ℕ → Members → Read (List JsonValue)
+children_in tile members = child_values tile (last_of (codes "implicitTiling") members)
+    (last_of (codes "children") members)
 
 abbrev pub children_left : Option JsonItems → List JsonValue
 children_left None = []
@@ -46,7 +53,7 @@ own_tile base number v =
     one_more number >>= λ u.
     or_cause (Shape TileField number) (members_of v) >>= λ members.
     parts base number members >>= λ own.
-    child_values number (last_of (codes "children") members) >>= λ vs.
+    children_in number members >>= λ vs.
     Ok (own, vs)
 
 -- the same of a tile whose children are given

@@ -14,10 +14,12 @@ parts_of base tile values =
     geometric_error tile values.geometric_error >>= λ error.
     own_refinement tile values.refine >>= λ refine.
     own_transform tile values.transform >>= λ transform.
-    contents base tile values.content values.contents values.implicit_tiling >>= λ addresses.
-    Ok (parts_by volume request error refine transform addresses)
+    contents base tile volume values.content values.contents values.implicit_tiling >>= λ own.
+    Ok (parts_by volume request error refine transform own)
 
--- the tile has no request volume, no transform and no list of contents, as few have one
+-- the tile has no request volume, no transform, no list of contents and no implicit tiling, as few
+-- have one
 abbrev pub are_common : Values → Bool
-are_common values = is_none values.viewer_request_volume && is_none values.transform && is_none
-    values.contents
+are_common values =
+    is_none values.viewer_request_volume && is_none values.transform && is_none values.contents
+    && is_none values.implicit_tiling

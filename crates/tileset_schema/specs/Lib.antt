@@ -1,6 +1,7 @@
 pub mod Causes
 pub mod Numbers
 pub mod Volumes
+pub mod Implicit
 pub mod Parts
 pub mod Tiles
 pub mod Documents
@@ -10,6 +11,8 @@ pub mod Named
 pub mod ValuesSeen
 pub mod Points
 pub mod Uris
+pub mod ContentSeen
+pub mod Tilings
 pub mod PartsBy
 pub mod Firsts
 pub mod FirstSeen

@@ -19,14 +19,16 @@ use Rattle.tile_uri.specs.Addresses.{join}
 use Rattle.tileset_schema.specs.Causes.{Read, ◌>>=◌, or_cause, or_default, if_there, each}
 use Rattle.tileset_schema.specs.Numbers.{numbers, clamped_error, read_from}
 use Rattle.tileset_schema.specs.Volumes.{volume_of}
+use Rattle.tileset_schema.specs.Implicit.{ImplicitParts, implicit_tiling}
 use Rattle.tileset_schema.specs.declared.field.Field.TheVariants.{BoundingVolume, ViewerRequestVolume, GeometricError, Refine as RefineField, Transform, Content, Uri}
-use Rattle.tileset_schema.specs.declared.error.DocumentError.TheVariants.{Shape, MissingField, OutOfRange, NotAffine, RefineWord, BothContents, BadAddress, NotYet}
+use Rattle.tileset_schema.specs.declared.error.DocumentError.TheVariants.{Shape, MissingField, OutOfRange, NotAffine, RefineWord, BothContents, BadAddress}
 
 abbrev pub Members : Type 0
 Members = List (List ℕ × JsonValue)
 
 -- what a tile says, but for its children: volumes, error, refinement and transform are its own, not
--- yet under those of the tiles above; contents are addresses, those of external tilesets among them
+-- yet under those of the tiles above; contents are addresses, those of external tilesets among
+-- them. An implicit root has templates of contents in its implicit part, and no content of its own
 pub record WrittenParts : Type 0 where
   pub volume : Volume
   pub request : Option Volume
@@ -34,6 +36,7 @@ pub record WrittenParts : Type 0 where
   pub refine : Option Refine
   pub transform : Map
   pub contents : List (List ℕ)
+  pub implicit : Option ImplicitParts
 
 -- ---- errors, in whole micrometres (OGC 22-025r4, "Geometric error")
 
@@ -102,17 +105,38 @@ address_or_cause tile (Err e) = Err (BadAddress tile)
 abbrev pub address_of : List ℕ → ℕ → List ℕ → Read (List ℕ)
 address_of base tile uri = address_or_cause tile (join base uri)
 
--- the addresses of uris; those of an implicit tile are templates, which aren't read yet
-abbrev pub addresses_of : List ℕ → ℕ → Option JsonValue → List (List ℕ) → Read (List (List ℕ))
-addresses_of base tile None uris = each (address_of base tile) uris
-addresses_of base tile (Some v) uris = Err (NotYet tile)
+-- each content has a uri before any is read further
+abbrev pub content_uris : ℕ → Option JsonValue → Option JsonValue → Read (List (List ℕ))
+content_uris tile content several =
+    content_values tile content several >>= objects tile >>= each (uri_of tile)
 
--- each content has a uri before any is resolved
-abbrev pub contents : List ℕ → ℕ → Option JsonValue → Option JsonValue → Option JsonValue
-    → Read (List (List ℕ))
-contents base tile content listed implicit_tiling =
-    content_values tile content listed >>= objects tile >>= each (uri_of tile)
-    >>= addresses_of base tile implicit_tiling
+-- contents, or the implicit part in their place
+pub record ContentParts : Type 0 where
+  pub addresses : List (List ℕ)
+  pub implicit : Option ImplicitParts
+
+abbrev pub explicit : List (List ℕ) → ContentParts
+explicit addresses = record { addresses = addresses; implicit = None }
+
+abbrev pub implicit : ImplicitParts → ContentParts
+implicit part = record { addresses = []; implicit = Some part }
+
+abbrev pub addresses : List ℕ → ℕ → Option JsonValue → Option JsonValue → Read (List (List ℕ))
+addresses base tile content several =
+    content_uris tile content several >>= each (address_of base tile)
+
+abbrev pub implicit_contents : ℕ → Volume → Option JsonValue → Option JsonValue → JsonValue
+    → Read ImplicitParts
+implicit_contents tile volume content several v =
+    content_uris tile content several >>= λ uris. implicit_tiling tile volume uris v
+
+-- the uris of a tile with `implicitTiling` are templates, and those of another are addresses
+abbrev pub contents : List ℕ → ℕ → Volume → Option JsonValue → Option JsonValue
+    → Option JsonValue → Read ContentParts
+contents base tile volume content several None =
+    addresses base tile content several >>= λ own. Ok (explicit own)
+contents base tile volume content several (Some v) =
+    implicit_contents tile volume content several v >>= λ part. Ok (implicit part)
 
 -- ---- the steps of a tile, but for its children
 
@@ -139,13 +163,14 @@ parts base tile members =
     geometric_error tile (last_of (codes "geometricError") members) >>= λ error.
     own_refinement tile (last_of (codes "refine") members) >>= λ refine.
     own_transform tile (last_of (codes "transform") members) >>= λ transform.
-    contents base tile (last_of (codes "content") members) (last_of (codes "contents") members)
-    (last_of (codes "implicitTiling") members) >>= λ addresses.
+    contents base tile volume (last_of (codes "content") members)
+    (last_of (codes "contents") members) (last_of (codes "implicitTiling") members) >>= λ own.
     Ok (record {
       volume = volume;
       request = request;
       error = error;
       refine = refine;
       transform = transform;
-      contents = addresses;
+      contents = own.addresses;
+      implicit = own.implicit;
     })

@@ -2,6 +2,8 @@
 use Rattle.std.specs.Prelude.{ℕ, Option, None, List, []}
 use Rattle.fixed_geometry.specs.Maps.{Map}
 use Rattle.volumes.specs.declared.volume.Volume.{Volume}
+use Rattle.tileset_schema.specs.Implicit.{ImplicitParts}
+use Rattle.tileset_schema.specs.Seen.{part_seen}
 use Rattle.tileset_schema.specs.declared.rest.Marks.{Marks}
 use Rattle.tileset_schema.specs.declared.rest.Rest.{Rest}
 use Rattle.tileset_schema.specs.declared.rest.Rest.TheVariants.{Common, Rare}
@@ -31,3 +33,8 @@ transform (Rare m n rare) = rare.value.transform
 abbrev pub more : Rest → List (List ℕ)
 more (Common m n) = []
 more (Rare m n rare) = rare.value.more.items
+
+-- what the tile says of the tiles below it, where it is an implicit root
+abbrev pub implicit : Rest → Option ImplicitParts
+implicit (Common m n) = None
+implicit (Rare m n rare) = part_seen rare.value.implicit

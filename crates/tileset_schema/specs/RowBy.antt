@@ -13,6 +13,9 @@ abbrev pub row_by : Volume → ℕ → List ℕ → Rest → Row
 row_by volume error first rest = record {
   parts = parts_by volume (rests.request rest) error (rests.marks rest).refine
       (or_identity (rests.transform rest))
-      (contents_by (rests.marks rest).content first (rests.more rest));
+      (record {
+        addresses = contents_by (rests.marks rest).content first (rests.more rest);
+        implicit = rests.implicit rest;
+      });
   size = rests.size rest;
 }

@@ -1,90 +1,33 @@
 //! The contents of a tile (OGC 22-025r4, "Tile content").
 
-ghost use Rattle.std.specs.Prelude.{◌≡◌, Some, None, IfOk};
+ghost use Rattle.std.specs.Prelude.{◌≡◌, None, [], ◌∷◌, IfOk, IfSome};
 ghost use Rattle.json_decimal.specs.Handles.{json_of, text_in, items_left};
-ghost use Rattle.tileset_schema.specs.Causes.{Gives, each, seen_by};
-ghost use Rattle.tileset_schema.specs.FirstSeen.{contents_in, first_in};
+ghost use Rattle.volumes.specs.Limits.{IsBox};
+ghost use Rattle.tileset_schema.specs.Causes.{Gives, each};
+ghost use Rattle.tileset_schema.specs.ContentSeen.{values_in};
+ghost use Rattle.tileset_schema.specs.FirstSeen.{addresses_in, contents_in, first_in};
 ghost use Rattle.tileset_schema.specs.Firsts.{IsFirst};
 ghost use Rattle.tileset_schema.specs.Parts as parts;
 ghost use Rattle.tileset_schema.specs.Seen.{value_seen};
-ghost use Rattle.tileset_schema.specs.Uris.{content_address, done, explicit};
-ghost use Rattle.tileset_schema.specs.declared.error.DocumentError.TheVariants.{Shape};
+ghost use Rattle.tileset_schema.specs.Uris.{addresses_by, content_address};
 
+use crate::content_values::{ContentValues, check_list, content_values, uri_of};
 use crate::error::DocumentError;
-use crate::field::Field;
 use crate::first_content::FirstContent;
-use crate::members::last;
+use crate::implicit::implicit_contents;
+use crate::implicit_part::ImplicitPart;
 use json_decimal::{JsonItems, JsonRef, JsonString};
 use std::alloc::Global;
 use tile_uri::{Address, Base, UriError};
+use volumes::Volume;
 
-/// The contents of a tile.
+/// The contents of a tile, or what an implicit root says in their place.
 #[derive(Drop)]
 pub struct OwnContents {
     pub first: FirstContent,
     /// Those behind the first.
     pub more: Vec<Address>,
-}
-
-/// A part of the contents has another form than it has to have.
-fn shape(tile: u32) -> DocumentError
-    ensures { result ≡ Shape Field.Content tile }
-{
-    DocumentError::Shape {
-        field: Field::Content,
-        tile,
-    }
-}
-
-/// The string of the uri of a content.
-fn uri_of(value: JsonRef<'_>, tile: u32) -> Result<JsonString<'_>, DocumentError>
-    ensures { seen_by text_in result ≡ parts.uri_of tile (json_of value.entry) }
-{
-    let field = Field::Uri;
-    let Some(members) = value.members() else {
-        return Err(shape(tile));
-    };
-    let Some(uri) = last(members, "uri") else {
-        return Err(DocumentError::MissingField { field, tile });
-    };
-    match uri.text() {
-        Some(uri) => Ok(uri),
-        None => Err(DocumentError::Shape { field, tile }),
-    }
-}
-
-/// Each content is an object, before any is looked into.
-fn check_objects(items: JsonItems<'_>, tile: u32) -> Result<(), DocumentError>
-    ensures { result ≡ done (parts.objects tile (items_left items.entry)) }
-{
-    let mut rest = items;
-    while let Some(value) = rest.next() {
-        if value.members().is_none() {
-            return Err(shape(tile));
-        }
-    }
-    Ok(())
-}
-
-/// Each content has a uri, before any is resolved.
-fn check_uris(items: JsonItems<'_>, tile: u32) -> Result<(), DocumentError>
-    ensures { result ≡ done (each (parts.uri_of tile) (items_left items.entry)) }
-{
-    let mut rest = items;
-    while let Some(value) = rest.next() {
-        uri_of(value, tile)?;
-    }
-    Ok(())
-}
-
-/// The contents of an implicit tile are templates, which aren't read yet.
-fn check_explicit(implicit: Option<JsonRef<'_>>, tile: u32) -> Result<(), DocumentError>
-    ensures { result ≡ explicit tile (value_seen implicit.entry) }
-{
-    match implicit {
-        None => Ok(()),
-        Some(_) => Err(DocumentError::NotYet { tile }),
-    }
+    pub implicit: Option<Box<ImplicitPart>>,
 }
 
 /// The address that a uri names below that of the document.
@@ -156,15 +99,17 @@ fn all_contents(
     items: JsonItems<'_>,
     tile: u32,
 ) -> Result<OwnContents, DocumentError>
-    ensures value { Gives contents_in result
+    ensures value { Gives addresses_in result
         (each (content_address base.now tile) (items_left items.entry)) }
     ensures is { IfOk result (λ own. IsFirst own.first.kind own.first.text) }
+    ensures explicit { IfOk result (λ own. own.implicit ≡ None) }
 {
     let mut rest = items;
     let Some(value) = rest.next() else {
         return Ok(OwnContents {
             first: FirstContent::absent(alloc)?,
             more: Vec::new(alloc),
+            implicit: None,
         });
     };
     let first = content_address(alloc, base, value, tile)?;
@@ -172,6 +117,7 @@ fn all_contents(
     Ok(OwnContents {
         first: FirstContent::of(first),
         more,
+        implicit: None,
     })
 }
 
@@ -180,80 +126,116 @@ fn one_content(
     alloc: Global,
     base: &Base,
     value: JsonRef<'_>,
-    implicit: Option<JsonRef<'_>>,
     tile: u32,
 ) -> Result<FirstContent, DocumentError>
-    ensures value { Gives first_in result (parts.contents base.now tile
-        (Some (json_of value.entry)) None (value_seen implicit.entry)) }
+    ensures value { Gives first_in result
+        (addresses_by base.now tile (json_of value.entry ∷ [])) }
     ensures is { IfOk result (λ first. IsFirst first.kind first.text) }
 {
     let uri = uri_of(value, tile)?;
-    check_explicit(implicit, tile)?;
     let address = address_of(alloc, base, uri, tile)?;
     Ok(FirstContent::of(address))
 }
 
-/// The contents of a tile that has no member `contents`.
+/// The contents of a tile that has neither a member `contents` nor `implicitTiling`.
 pub fn common_content(
     alloc: Global,
     base: &Base,
     content: Option<JsonRef<'_>>,
-    implicit: Option<JsonRef<'_>>,
     tile: u32,
 ) -> Result<FirstContent, DocumentError>
-    ensures value { Gives first_in result (parts.contents base.now tile
-        (value_seen content.entry) None (value_seen implicit.entry)) }
+    ensures value { Gives first_in result
+        (parts.addresses base.now tile (value_seen content.entry) None) }
     ensures is { IfOk result (λ first. IsFirst first.kind first.text) }
 {
     match content {
-        Some(value) => one_content(alloc, base, value, implicit, tile),
-        None => {
-            check_explicit(implicit, tile)?;
-            Ok(FirstContent::absent(alloc)?)
-        }
+        Some(value) => one_content(alloc, base, value, tile),
+        None => Ok(FirstContent::absent(alloc)?),
     }
 }
 
-/// The contents of the member `contents`.
+/// The contents of a list.
 fn listed_contents(
     alloc: Global,
     base: &Base,
-    value: JsonRef<'_>,
-    implicit: Option<JsonRef<'_>>,
+    items: JsonItems<'_>,
     tile: u32,
 ) -> Result<OwnContents, DocumentError>
-    ensures value { Gives contents_in result (parts.contents base.now tile
-        None (Some (json_of value.entry)) (value_seen implicit.entry)) }
+    ensures value { Gives addresses_in result
+        (addresses_by base.now tile (items_left items.entry)) }
     ensures is { IfOk result (λ own. IsFirst own.first.kind own.first.text) }
+    ensures explicit { IfOk result (λ own. own.implicit ≡ None) }
 {
-    let Some(items) = value.items() else {
-        return Err(shape(tile));
-    };
-    check_objects(items, tile)?;
-    check_uris(items, tile)?;
-    check_explicit(implicit, tile)?;
+    check_list(items, tile)?;
     all_contents(alloc, base, items, tile)
 }
 
-/// The contents of a tile, by the values of `content`, `contents` and `implicitTiling`.
+/// The contents of these values.
+fn contents_of(
+    alloc: Global,
+    base: &Base,
+    values: ContentValues<'_>,
+    tile: u32,
+) -> Result<OwnContents, DocumentError>
+    ensures value { Gives addresses_in result
+        (addresses_by base.now tile (values_in values.entry)) }
+    ensures is { IfOk result (λ own. IsFirst own.first.kind own.first.text) }
+    ensures explicit { IfOk result (λ own. own.implicit ≡ None) }
+{
+    let first = match values {
+        ContentValues::Absent => FirstContent::absent(alloc)?,
+        ContentValues::One(value) => one_content(alloc, base, value, tile)?,
+        ContentValues::Listed(items) => return listed_contents(alloc, base, items, tile),
+    };
+    Ok(OwnContents {
+        first,
+        more: Vec::new(alloc),
+        implicit: None,
+    })
+}
+
+/// The contents of a tile without `implicitTiling`.
+fn explicit_contents(
+    alloc: Global,
+    base: &Base,
+    content: Option<JsonRef<'_>>,
+    contents: Option<JsonRef<'_>>,
+    tile: u32,
+) -> Result<OwnContents, DocumentError>
+    ensures value { Gives addresses_in result
+        (parts.addresses base.now tile (value_seen content.entry) (value_seen contents.entry)) }
+    ensures is { IfOk result (λ own. IsFirst own.first.kind own.first.text) }
+    ensures explicit { IfOk result (λ own. own.implicit ≡ None) }
+{
+    let values = content_values(content, contents, tile)?;
+    contents_of(alloc, base, values, tile)
+}
+
+/// The contents of a tile of this volume, by the values of `content`, `contents` and
+/// `implicitTiling`.
 pub fn own_contents(
     alloc: Global,
     base: &Base,
+    volume: &Volume,
     content: Option<JsonRef<'_>>,
     contents: Option<JsonRef<'_>>,
     implicit: Option<JsonRef<'_>>,
     tile: u32,
 ) -> Result<OwnContents, DocumentError>
-    ensures value { Gives contents_in result (parts.contents base.now tile
+    ensures value { Gives contents_in result (parts.contents base.now tile volume.now
         (value_seen content.entry) (value_seen contents.entry) (value_seen implicit.entry)) }
     ensures is { IfOk result (λ own. IsFirst own.first.kind own.first.text) }
+    ensures boxed { IfOk result (λ own. IfSome own.implicit (λ part. IsBox volume.now)) }
 {
-    match (content, contents) {
-        (Some(_), Some(_)) => Err(DocumentError::BothContents { tile }),
-        (None, Some(list)) => listed_contents(alloc, base, list, implicit, tile),
-        (content, None) => Ok(OwnContents {
-            first: common_content(alloc, base, content, implicit, tile)?,
-            more: Vec::new(alloc),
-        }),
+    match implicit {
+        None => explicit_contents(alloc, base, content, contents, tile),
+        Some(tiling) => {
+            let part = implicit_contents(alloc, volume, content, contents, tiling, tile)?;
+            Ok(OwnContents {
+                first: FirstContent::absent(alloc)?,
+                more: Vec::new(alloc),
+                implicit: Some(Box::new(alloc, part)?),
+            })
+        }
     }
 }

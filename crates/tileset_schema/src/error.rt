@@ -34,10 +34,14 @@ pub enum DocumentError {
     BothContents { tile: u32 },
     /// The tile has more before it than a document may have.
     TooManyTiles,
-    /// The uri of a content names no address.
+    /// The uri of a content names no address, or that of an implicit tile is no template.
     BadAddress { tile: u32 },
-    /// The tile has `implicitTiling`, which isn't read yet.
-    NotYet { tile: u32 },
+    /// The levels of an implicit tile are out of range.
+    ImplicitLimits { tile: u32 },
+    /// The tile has `implicitTiling`, and its volume is no box.
+    ImplicitSphere { tile: u32 },
+    /// The tile has `implicitTiling`, and children too.
+    ImplicitChildren { tile: u32 },
     /// There is no memory.
     OutOfMemory,
 }

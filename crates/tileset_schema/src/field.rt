@@ -29,6 +29,16 @@ pub enum Field {
     Content,
     /// The `uri` of a content.
     Uri,
+    /// `implicitTiling`.
+    ImplicitTiling,
+    /// `implicitTiling.subdivisionScheme`.
+    Scheme,
+    /// `implicitTiling.subtreeLevels`.
+    SubtreeLevels,
+    /// `implicitTiling.availableLevels`.
+    AvailableLevels,
+    /// `implicitTiling.subtrees`, or its `uri`.
+    Subtrees,
     /// `children`.
     Children,
 }

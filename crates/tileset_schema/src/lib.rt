@@ -2,12 +2,15 @@
 //! out, or the first cause why it isn't read.
 #![tactic(auto)]
 
+mod content_values;
 mod contents;
 mod document;
 mod error;
 mod field;
 mod first_content;
 mod geometric_errors;
+mod implicit;
+mod implicit_part;
 mod laws;
 mod limits;
 mod members;
@@ -16,6 +19,8 @@ mod parts;
 mod reading;
 mod refinement;
 mod rest;
+mod subdivision;
+mod templates;
 #[cfg(test)]
 mod tests;
 mod tile_values;
@@ -28,7 +33,8 @@ mod written;
 pub use document::Document;
 pub use error::DocumentError;
 pub use field::Field;
+pub use implicit_part::ImplicitPart;
 pub use laws::list_gives_tree;
-pub use limits::TILE_LIMIT;
+pub use limits::{AVAILABLE_LEVELS, TILE_LIMIT};
 pub use reading::read;
 pub use written::Written;

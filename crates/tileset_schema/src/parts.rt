@@ -59,7 +59,7 @@ fn push_common(
     let volume = bounding_volume(own.bounding_volume, tile)?;
     let error = geometric_error(own.geometric_error, tile)?;
     let refine = own_refinement(alloc, own.refine, tile)?;
-    let first = common_content(alloc, base, own.content, own.implicit_tiling, tile)?;
+    let first = common_content(alloc, base, own.content, tile)?;
     let rest = Rest::common(Marks {
         refine,
         content: first.kind,
@@ -85,9 +85,14 @@ fn push_rare(
     let error = geometric_error(own.geometric_error, tile)?;
     let refine = own_refinement(alloc, own.refine, tile)?;
     let transform = own_transform(own.transform, tile)?;
-    let OwnContents { first, more } = own_contents(
+    let OwnContents {
+        first,
+        more,
+        implicit,
+    } = own_contents(
         alloc,
         base,
+        &volume,
         own.content,
         own.contents,
         own.implicit_tiling,
@@ -97,7 +102,7 @@ fn push_rare(
         refine,
         content: first.kind,
     };
-    let rest = Rest::new(alloc, marks, request, transform, more)?;
+    let rest = Rest::new(alloc, marks, request, transform, more, implicit)?;
     tiles.push(Written::new(volume, error, first, rest))?;
     Ok(())
 }

@@ -2,7 +2,9 @@
 
 ghost use Rattle.std.specs.Prelude.{◌≡◌, [], None, IfOk, option_map};
 ghost use Rattle.tileset_schema.specs.Rests as rests;
+ghost use Rattle.tileset_schema.specs.Seen.{part_seen};
 
+use crate::implicit_part::ImplicitPart;
 use fixed_geometry::Affine;
 use std::alloc::{AllocError, Global};
 use tile_types::Refine;
@@ -34,6 +36,8 @@ pub struct Rare {
     pub transform: Option<Affine>,
     /// The contents from the second on.
     pub more: Vec<Address>,
+    /// What an implicit root says of the tiles below it.
+    pub implicit: Option<Box<ImplicitPart>>,
 }
 
 /// The marks of a tile, how many tiles its tree has, and what few tiles say, where it says any of
@@ -60,6 +64,7 @@ impl Rest {
         ensures request { rests.request result ≡ None }
         ensures transform { rests.transform result ≡ None }
         ensures more { rests.more result ≡ [] }
+        ensures implicit { rests.implicit result ≡ None }
     {
         Rest::Common { marks, size: 1 }
     }
@@ -71,14 +76,16 @@ impl Rest {
         request: Option<Volume>,
         transform: Option<Affine>,
         more: Vec<Address>,
+        implicit: Option<Box<ImplicitPart>>,
     ) -> Result<Rest, AllocError>
         ensures marks { IfOk result (λ r. rests.marks r ≡ marks) }
         ensures size { IfOk result (λ r. rests.size r ≡ 1) }
         ensures request { IfOk result (λ r. rests.request r ≡ request) }
         ensures transform { IfOk result (λ r. rests.transform r ≡ transform) }
         ensures more { IfOk result (λ r. rests.more r ≡ more.items) }
+        ensures implicit { IfOk result (λ r. rests.implicit r ≡ part_seen implicit) }
     {
-        if request.is_none() && transform.is_none() && more.is_empty() {
+        if request.is_none() && transform.is_none() && more.is_empty() && implicit.is_none() {
             return Ok(Rest::common(marks));
         }
         let rare = Box::new(
@@ -87,6 +94,7 @@ impl Rest {
                 request,
                 transform,
                 more,
+                implicit,
             },
         )?;
         Ok(Rest::Rare {
@@ -149,6 +157,16 @@ impl Rest {
         match self {
             Rest::Common { .. } => &[],
             Rest::Rare { rare, .. } => rare.more.as_slice(),
+        }
+    }
+
+    /// What an implicit root says of the tiles below it.
+    pub fn implicit(&self) -> Option<&ImplicitPart>
+        ensures { option_map (λ p. p.now) result ≡ rests.implicit self.now }
+    {
+        match self {
+            Rest::Common { .. } => None,
+            Rest::Rare { rare, .. } => rare.implicit.as_deref(),
         }
     }
 }

@@ -2,6 +2,8 @@
 
 mod accessors;
 mod content_causes;
+mod implicit_causes;
+mod implicit_parts;
 mod limits;
 mod tile_causes;
 mod top_causes;
@@ -21,6 +23,9 @@ const TOP: &str = r#"{"asset":{"version":"1.1"},"geometricError":1,"root":"#;
 
 /// A tile in a sphere of a metre, up to its further members.
 const TILE: &str = r#"{"boundingVolume":{"sphere":[0,0,0,1]},"geometricError":1"#;
+
+/// A tile in a box of two metres, up to its further members.
+const BOXED: &str = r#"{"boundingVolume":{"box":[0,0,0,1,0,0,0,1,0,0,0,1]},"geometricError":1"#;
 
 /// A document in pieces, and the first cause why it isn't read.
 type Row = (&'static [&'static str], DocumentError);

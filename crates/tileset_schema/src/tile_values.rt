@@ -80,6 +80,9 @@ impl<'a> TileValues<'a> {
     pub fn are_common(&self) -> bool
         ensures { result ≡ are_common (values_seen self.now) }
     {
-        self.viewer_request_volume.is_none() && self.transform.is_none() && self.contents.is_none()
+        self.viewer_request_volume.is_none()
+            && self.transform.is_none()
+            && self.contents.is_none()
+            && self.implicit_tiling.is_none()
     }
 }

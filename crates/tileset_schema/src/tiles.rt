@@ -1,7 +1,7 @@
 //! The tiles of a document, in preorder.
 
 ghost use Rattle.std.specs.Prelude.{◌≡◌, ◌≤◌, length, OnOk};
-ghost use Rattle.json_decimal.specs.Handles.{json_of};
+ghost use Rattle.json_decimal.specs.Handles.{json_of, items_left};
 ghost use Rattle.json_decimal.specs.JsonValue.{values};
 ghost use Rattle.tileset_schema.specs.Added.{Adds, AddsAll, AddsOne, own_tile};
 ghost use Rattle.tileset_schema.specs.Added.{child_values, children_left, next_number};
@@ -29,23 +29,41 @@ fn next_number(tiles: &Vec<Written>) -> Result<u32, DocumentError>
     Err(DocumentError::TooManyTiles)
 }
 
-/// The children of a tile.
-fn children_of(
-    value: Option<JsonRef<'_>>,
+/// Beside `implicitTiling` a tile writes no children.
+fn check_children(
+    implicit: Option<JsonRef<'_>>,
+    items: JsonItems<'_>,
     tile: u32,
-) -> Result<Option<JsonItems<'_>>, DocumentError>
-    ensures { seen_by children_left result ≡ child_values tile (value_seen value.entry) }
+) -> Result<(), DocumentError>
+    ensures { result ≡ trees.may_have tile (value_seen implicit.entry) (items_left items.entry) }
+{
+    let mut rest = items;
+    if implicit.is_some() && rest.next().is_some() {
+        return Err(DocumentError::ImplicitChildren { tile });
+    }
+    Ok(())
+}
+
+/// The children of a tile.
+fn children_of<'a>(
+    value: Option<JsonRef<'a>>,
+    implicit: Option<JsonRef<'_>>,
+    tile: u32,
+) -> Result<Option<JsonItems<'a>>, DocumentError>
+    ensures { seen_by children_left result
+        ≡ child_values tile (value_seen implicit.entry) (value_seen value.entry) }
 {
     let Some(value) = value else {
         return Ok(None);
     };
-    match value.items() {
-        Some(items) => Ok(Some(items)),
-        None => Err(DocumentError::Shape {
+    let Some(items) = value.items() else {
+        return Err(DocumentError::Shape {
             field: Field::Children,
             tile,
-        }),
-    }
+        });
+    };
+    check_children(implicit, items, tile)?;
+    Ok(Some(items))
 }
 
 /// Adds a tile without those below it, and gives its children. It is a call of its own, so that the
@@ -70,7 +88,7 @@ fn add_tile<'a>(
     let mut own = TileValues::new();
     own.take(members);
     push_tile(alloc, base, &own, number, tiles)?;
-    children_of(own.children, number)
+    children_of(own.children, own.implicit_tiling, number)
 }
 
 /// Adds a tile and all tiles below it. A JSON text nests 256 deep at most, so that the stack is

@@ -2,7 +2,7 @@
 
 ghost use Rattle.std.specs.Prelude.{◌≡◌, ◌≤◌, ◌<◌, [], true, length, option_map, slice_index_or};
 ghost use Rattle.std.specs.Prelude.{IfSome};
-ghost use Rattle.volumes.specs.Limits.{IsInRange, error_limit};
+ghost use Rattle.volumes.specs.Limits.{IsBoxInRange, IsInRange, error_limit};
 ghost use Rattle.tile_uri.specs.Addresses as addresses;
 ghost use Rattle.tileset_schema.specs.Firsts.{IsFirst};
 ghost use Rattle.tileset_schema.specs.Rests as rests;
@@ -10,6 +10,7 @@ ghost use Rattle.tileset_schema.specs.RowBy.{row_by};
 ghost use Rattle.tileset_schema.specs.Seen.{or_identity};
 
 use crate::first_content::FirstContent;
+use crate::implicit_part::ImplicitPart;
 use crate::rest::{ContentKind, Rest};
 use fixed_geometry::Affine;
 use std::marker::Model;
@@ -19,8 +20,8 @@ use volumes::Volume;
 
 /// A tile as its document writes it (OGC 22-025r4, "Tiles"), in a list of all tiles in preorder.
 /// What it says is its own, not yet under that of the tiles above. It takes 160 bytes, and memory
-/// of its own only for an address of more than 30 bytes, a request volume, a transform, or a second
-/// content.
+/// of its own only for an address of more than 30 bytes, a request volume, a transform, a second
+/// content, or an implicit part.
 #[derive(Drop)]
 pub struct Written {
     volume: Volume,
@@ -50,6 +51,7 @@ impl Written {
         requires error { error ≤ error_limit }
         requires first { IsFirst first.kind first.text }
         requires kind { (rests.marks rest).content ≡ first.kind }
+        requires boxed { IfSome (rests.implicit rest) (λ part. IsBoxInRange volume) }
         ensures { result ≡ row_by volume error first.text rest }
     {
         Written {
@@ -130,6 +132,15 @@ impl Written {
             return matches!(self.rest.marks().content, ContentKind::External);
         }
         is_external(&self.rest.more()[i - 1])
+    }
+
+    /// What the tile says of the tiles below it, where it is an implicit root (OGC 22-025r4,
+    /// "Implicit Tiling"). Then its volume is a box.
+    pub fn implicit(&self) -> Option<&ImplicitPart>
+        ensures value { option_map (λ p. p.now) result ≡ self.now.parts.implicit }
+        ensures boxed { IfSome self.now.parts.implicit (λ p. IsBoxInRange self.now.parts.volume) }
+    {
+        self.rest.implicit()
     }
 
     /// How many tiles the tree of the tile has, the tile itself counted. Its first child is the

@@ -132,67 +132,7 @@ static CAUSES_OF_CONTENTS: [Row; 19] = [
     ),
 ];
 
-static IMPLICIT_TILES: [Row; 7] = [
-    (
-        &[TOP, TILE, r#","implicitTiling":{}}}"#],
-        DocumentError::NotYet { tile: 0 },
-    ),
-    (
-        &[TOP, TILE, r#","implicitTiling":null,"children":5}}"#],
-        DocumentError::NotYet { tile: 0 },
-    ),
-    (
-        &[
-            TOP,
-            TILE,
-            r#","implicitTiling":{},"content":{"uri":"http://["}}}"#,
-        ],
-        DocumentError::NotYet { tile: 0 },
-    ),
-    (
-        &[
-            TOP,
-            TILE,
-            r#","implicitTiling":{},"contents":[{"uri":"{x}"},{"uri":"http://["}]}}"#,
-        ],
-        DocumentError::NotYet { tile: 0 },
-    ),
-    (
-        &[TOP, TILE, r#","implicitTiling":{},"content":{}}}"#],
-        DocumentError::MissingField {
-            field: Field::Uri,
-            tile: 0,
-        },
-    ),
-    (
-        &[
-            TOP,
-            TILE,
-            r#","implicitTiling":{},"contents":[{"uri":"a"},5]}}"#,
-        ],
-        DocumentError::Shape {
-            field: Field::Content,
-            tile: 0,
-        },
-    ),
-    (
-        &[
-            TOP,
-            TILE,
-            r#","children":["#,
-            TILE,
-            r#","implicitTiling":{}}]}}"#,
-        ],
-        DocumentError::NotYet { tile: 1 },
-    ),
-];
-
 #[test]
 fn causes_of_contents(rt: HostRuntime) -> Result<(), Fail> {
     check_causes(&rt, &CAUSES_OF_CONTENTS)
-}
-
-#[test]
-fn implicit_tiles(rt: HostRuntime) -> Result<(), Fail> {
-    check_causes(&rt, &IMPLICIT_TILES)
 }

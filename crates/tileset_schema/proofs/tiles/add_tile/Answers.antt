@@ -1,7 +1,6 @@
 use Rattle.std.proofs.Common.{Ok, ◌<◌, ◌∙◌, sym, length, ap}
 use Rattle.std.proofs.lemmas.Result.{err_from_is_err_and}
 use Rattle.json_decimal.specs.Handles.{json_of, members_left}
-use Rattle.tileset_schema.specs.Added.{child_values}
 use Rattle.tileset_schema.specs.Causes.{◌>>=◌}
 use Rattle.tileset_schema.specs.ValuesSeen.{values_seen}
 use Rattle.tileset_schema.specs.declared.limits.TheConstants.{TILE_LIMIT}
@@ -42,8 +41,8 @@ returns c =
     (parts_are c.args.base.now c.in_ok-number.number ms (values_seen c.new-own.result)
     (values_seen c.take.new.self) c.new-own.ensures c.take.ensures)
     ∙ c.in_ok-push_tile.ensures.1)
-    ∙ ap (λ value. child_values c.in_ok-number.number value >>= λ vs. Ok (own, vs))
+    ∙ ap (λ kids. kids >>= λ vs. Ok (own, vs))
     (sym
-    (children_are ms (values_seen c.new-own.result) (values_seen c.take.new.self)
+    (children_are c.in_ok-number.number ms (values_seen c.new-own.result) (values_seen c.take.new.self)
     c.new-own.ensures c.take.ensures)))
     c.in_ok-push_tile.ensures.2)

@@ -3,7 +3,7 @@ use Rattle.std.proofs.lemmas.Result.{err_from_is_err_and}
 use Rattle.json_decimal.specs.Handles.{json_of, text_in, items_left}
 use Rattle.tileset_schema.specs.Parts.{uri_of}
 use Rattle.tileset_schema.proofs.Chains.{done_more, done_not}
-use Rattle.tileset_schema.proofs.contents.check_uris.Goals as goal
+use Rattle.tileset_schema.proofs.content_values.check_uris.Goals as goal
 
 pub loop-value-preserved : goal.loop-value-preserved
 loop-value-preserved c =
