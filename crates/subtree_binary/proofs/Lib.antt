@@ -1,0 +1,6 @@
+mod Chains
+mod Lasts
+mod Sizes
+mod Counted
+mod Absent
+mod Chunked

@@ -1,0 +1,13 @@
+use Rattle.std.proofs.Common.{◌≡◌, length}
+use Rattle.json_decimal.specs.Handles.{items_left}
+use Rattle.subtree_binary.specs.Causes.{each}
+use Rattle.subtree_binary.specs.Chunks.{buffer}
+use Rattle.subtree_binary.proofs.Chains.{behind}
+use Rattle.subtree_binary.proofs.buffers.each_buffer.Given as goal
+
+abbrev pub invariant-loop-value : goal.invariant-loop-value
+invariant-loop-value l =
+    behind l.buffers.items (each buffer (items_left l.rest)) ≡ each buffer (items_left l.items)
+
+abbrev pub decreases-loop-value : goal.decreases-loop-value
+decreases-loop-value l = length (items_left l.rest)

@@ -1,0 +1,11 @@
+pub mod Counts
+pub mod Found
+pub mod Subtrees
+pub mod Causes
+pub mod Header
+pub mod Chunks
+pub mod Availability
+pub mod Reading
+pub mod Seen
+pub mod StorageSeen
+pub mod BitsSeen
