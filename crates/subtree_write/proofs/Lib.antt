@@ -1,0 +1,14 @@
+mod Packs
+mod Adding
+mod Pieces
+mod Numerals
+mod Values
+mod Grammar
+mod Spelling
+mod Headed
+mod Unpacked
+mod Looked
+mod Stored
+mod RowsRead
+mod Bounded
+mod ReadBack

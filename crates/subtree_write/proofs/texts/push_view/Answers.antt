@@ -1,0 +1,12 @@
+use Rattle.std.proofs.Common.{◌∙◌, append_assoc}
+use Rattle.subtree_write.proofs.texts.push_view.Goals as goal
+
+pub returns : goal.returns
+returns c =
+    c.in_ok-push-3.ensures
+    ∙ rw (
+      c.in_ok-push_number-2.ensures,
+      c.in_ok-push-2.ensures,
+      c.in_ok-push_number.ensures,
+      c.in_ok-push.ensures,
+    ) (simp append_assoc)
