@@ -2,24 +2,21 @@
 use Rattle.std.specs.Prelude.{IsTrue, if◌then◌else◌, not, is_none}
 use Rattle.std.proofs.Common.{ℕ, ◌+◌, ◌≤◌, ◌<◌, ◌≡◌, inl, inr, true≢false, Bool, true, false, ◌&&◌}
 use Rattle.std.proofs.Common.{◌||◌, cond, Option, Some, None, List, [], ◌∷◌, ◌++◌, length, map}
-use Rattle.std.proofs.Common.{nat_eq, refl, sym, ◌∙◌, ap, arith, length-append}
+use Rattle.std.proofs.Common.{refl, sym, ◌∙◌, ap, arith, length-append, subst, IfSome}
 use Rattle.std.specs.List.{list_any, AllByRecursion}
 use Rattle.std.specs.Map.{lookup}
-use Rattle.std.specs.Cmp.Lexicographic.{pointwise}
 use Rattle.std.proofs.lemmas.List.{length-map, map-append}
 use Rattle.std.proofs.lemmas.List.Folds.{list_any-append}
 use Rattle.indexmap.specs.IndexSet.{insert_key}
 use Rattle.tile_types.specs.declared.key.Key.{Key}
-use Rattle.tile_types.specs.declared.key.Kind.TheVariants.{Tileset}
 use Rattle.tile_types.specs.Keys.{same_key}
-use Rattle.tileset_schema.specs.declared.document.Document.{Document}
 use Rattle.tile_types.proofs.Keys.{key_turned}
+use Rattle.tile_uri.specs.Addresses.{IsAddress}
 use Rattle.doc_store.specs.declared.limits.TheConstants.{STORE_BYTES, STORE_DOCUMENTS}
-use Rattle.doc_store.specs.Docs.{Docs, Loaded, bytes_of, docs_of, is_unread, tileset_key}
+use Rattle.doc_store.specs.Docs.{Docs, Loaded, bytes_of, docs_of, is_unread}
 use Rattle.doc_store.specs.Store.{Stored, total_bytes, with_document, IsFull}
-use Rattle.doc_store.specs.declared.loaded_document.LoadedDocument.{LoadedDocument}
-use Rattle.doc_store.specs.Kept.{Entry, AreKept, loaded_of, IsRead, IsReading, IsNotGone}
-use Rattle.doc_store.proofs.Entries.{key_with}
+use Rattle.doc_store.specs.Kept.{Entry, AreKept, loaded_of, IsRead, IsNotGone}
+use Rattle.doc_store.proofs.Numbers.{document_stays}
 
 -- ---- an unread key
 
@@ -37,7 +34,7 @@ none_there : {A : Type 0} (o : Option A) → is_none o ≡ true → o ≡ None
 none_there None e = refl
 none_there (Some a) e = cc
 
-pub not_loaded : (docs : Docs) (key : Key) → is_unread docs key ≡ true → docs.loaded key ≡ None
+not_loaded : (docs : Docs) (key : Key) → is_unread docs key ≡ true → docs.loaded key ≡ None
 not_loaded docs key e =
     elim (docs.gone key) as (λ b. (not b && is_none (docs.loaded key)) ≡ true
     → docs.loaded key ≡ None) [
@@ -45,18 +42,23 @@ not_loaded docs key e =
       | false ↦ λ h. none_there (docs.loaded key) h
     ] e
 
--- a tileset that isn't loaded has no entry
-pub no_entry : (es : List Entry) (address : List ℕ)
-    → bytes_of (map loaded_of es) (tileset_key address) ≡ None
-    → lookup (pointwise nat_eq address) es ≡ None
-no_entry [] address e = refl
-no_entry (x ∷ xs) address e =
-    elim (pointwise nat_eq address x.0) as (λ b.
-    (if b then Some x.1.bytes else bytes_of (map loaded_of xs) (tileset_key address)) ≡ None
-    → cond b (Some x.1) (lookup (pointwise nat_eq address) xs) ≡ None) [
+-- a key that isn't loaded has no entry
+no_entry : (es : List Entry) (key : Key) → bytes_of (map loaded_of es) key ≡ None
+    → lookup (same_key key) es ≡ None
+no_entry [] key e = refl
+no_entry (x ∷ xs) key e =
+    elim (same_key key x.0) as (λ b.
+    (if b then Some x.1.bytes else bytes_of (map loaded_of xs) key) ≡ None
+    → cond b (Some x.1) (lookup (same_key key) xs) ≡ None) [
       | true ↦ λ h. cc
-      | false ↦ λ h. no_entry xs address h
+      | false ↦ λ h. no_entry xs key h
     ] e
+
+pub no_entry_yet : (es : List Entry) (gone : List Key) (key : Key) (is : Key → Bool)
+    → is ≡ same_key key → unread_in es gone key ≡ true → lookup is es ≡ None
+no_entry_yet es gone key is same e =
+    ap (λ p. lookup p es) same
+    ∙ no_entry es key (not_loaded (docs_of (map loaded_of es) gone) key e)
 
 -- ---- one more document
 
@@ -70,11 +72,11 @@ total_more : (ls : List Loaded) (l : Loaded)
 total_more [] l = omega arith
 total_more (x ∷ xs) l = omega (arith, total_more xs l)
 
-pub loaded_more : (es : List Entry) (e : Entry)
+loaded_more : (es : List Entry) (e : Entry)
     → map loaded_of (es ++ e ∷ []) ≡ map loaded_of es ++ loaded_of e ∷ []
 loaded_more es e = map-append loaded_of es (e ∷ [])
 
-pub are_kept_with : (es : List Entry) (gone : List Key) (total : ℕ) (e : Entry)
+are_kept_with : (es : List Entry) (gone : List Key) (total : ℕ) (e : Entry)
     → AreKept es gone total → IsRead e → IsNotGone gone e
     → total + length e.1.bytes ≤ STORE_BYTES → length es + 1 ≤ STORE_DOCUMENTS
     → AreKept (es ++ e ∷ []) gone (total + length e.1.bytes)
@@ -87,7 +89,41 @@ are_kept_with es gone total e k read apart bytes documents = record {
   bytes_fit = bytes;
   documents_fit = omega (arith, length-append es (e ∷ []));
   some = omega (arith, length-append es (e ∷ []));
+  root = subst (λ o. IfSome o (λ entry. IsAddress entry.0.address))
+      (sym (document_stays es e 0 k.some)) k.root;
 }
+
+-- where the store isn't full there is room
+room_left : (store : Stored) (more : ℕ) (full : Bool) → (IsFull store more → IsTrue full)
+    → full ≡ false
+    → (total_bytes store.loaded + more ≤ STORE_BYTES) × (length store.loaded + 1 ≤ STORE_DOCUMENTS)
+room_left store more full told e =
+    let never : IsFull store more → ⊥ = λ f. true≢false (sym (told f) ∙ e) in (
+      grind (arith, λ (h : STORE_BYTES < total_bytes store.loaded + more). never (inr h)),
+      grind (arith, λ (h : STORE_DOCUMENTS < length store.loaded + 1). never (inl h)),
+    )
+
+pub kept_after : (es : List Entry) (store : Stored) (gone : List Key) (total : ℕ) (e : Entry)
+    (full : Bool) → AreKept es gone total → store.loaded ≡ map loaded_of es
+    → unread_in es gone e.0 ≡ true → IsRead e
+    → (IsFull store (length e.1.bytes) → IsTrue full) → full ≡ false
+    → AreKept (es ++ e ∷ []) gone (total + length e.1.bytes)
+kept_after es store gone total e full k loaded unread read told is =
+    let room = room_left store (length e.1.bytes) full told is in
+    let counted : length store.loaded ≡ length es = ap length loaded ∙ length-map es loaded_of in
+    are_kept_with es gone total e k read (not_gone (docs_of (map loaded_of es) gone) e.0 unread)
+    (omega (arith, room.0, k.total_is, ap total_bytes loaded)) (omega (arith, room.1, counted))
+
+-- the store is as before, with one more document
+pub added_view : (es es' : List Entry) (gone : List Key) (spare : ℕ) (e : Entry)
+    → es' ≡ es ++ e ∷ [] → (store : Stored)
+    → record { loaded = map loaded_of es; gone = gone; spare = spare } ≡ store
+    → record { loaded = map loaded_of es'; gone = gone; spare = spare }
+    ≡ with_document store e.0 e.1.bytes
+added_view es es' gone spare e more store is =
+    ap (λ ls. record { loaded = ls; gone = gone; spare = spare })
+    (ap (map loaded_of) more ∙ loaded_more es e)
+    ∙ ap (λ s. with_document s e.0 e.1.bytes) is
 
 -- ---- one more absent key
 
@@ -96,14 +132,14 @@ others : (es : List Entry) (gone : List Key) (key : Key) → AllByRecursion (IsN
     → bytes_of (map loaded_of es) key ≡ None → AllByRecursion (IsNotGone (gone ++ key ∷ [])) es
 others [] gone key all e = tt
 others (x ∷ xs) gone key all e =
-    elim (same_key key (tileset_key x.0)) as (λ b. same_key key (tileset_key x.0) ≡ b
+    elim (same_key key x.0) as (λ b. same_key key x.0 ≡ b
     → (if b then Some x.1.bytes else bytes_of (map loaded_of xs) key) ≡ None
     → AllByRecursion (IsNotGone (gone ++ key ∷ [])) (x ∷ xs)) [
       | true ↦ λ s h. cc
       | false ↦ λ s h. (
-        list_any-append (same_key (tileset_key x.0)) gone (key ∷ [])
-            ∙ ap (λ b. b || list_any (same_key (tileset_key x.0)) (key ∷ [])) all.0
-            ∙ ap (λ b. b || false) (key_turned key (tileset_key x.0) s),
+        list_any-append (same_key x.0) gone (key ∷ [])
+            ∙ ap (λ b. b || list_any (same_key x.0) (key ∷ [])) all.0
+            ∙ ap (λ b. b || false) (key_turned key x.0 s),
         others xs gone key all.1 h,
       )
     ] refl e
@@ -118,70 +154,14 @@ are_kept_without es gone total key k unread = record {
   bytes_fit = k.bytes_fit;
   documents_fit = k.documents_fit;
   some = k.some;
+  root = k.root;
 }
 
--- what the set's `==` finds is what the definitions find
-pub any_same : (eq : Key → Key → Bool) → ((a b : Key) → eq a b ≡ same_key a b)
-    → (key : Key) (ks : List Key) → list_any (eq key) ks ≡ list_any (same_key key) ks
-any_same eq same key [] = refl
-any_same eq same key (k ∷ ks) =
-    ap (λ b. b || list_any (eq key) ks) (same key k)
-    ∙ ap (λ b. same_key key k || b) (any_same eq same key ks)
-
 -- an unread key comes last
-pub marked : (eq : Key → Key → Bool) → ((a b : Key) → eq a b ≡ same_key a b)
-    → (es : List Entry) (gone : List Key) (key : Key) → unread_in es gone key ≡ true
+pub marked : (eq : Key → Key → Bool) → ((a : Key) → eq a ≡ same_key a) → (es : List Entry)
+    (gone : List Key) (key : Key) → unread_in es gone key ≡ true
     → insert_key eq gone key ≡ gone ++ key ∷ []
 marked eq same es gone key unread =
     ap (λ b. if b then gone else gone ++ key ∷ [])
-    (any_same eq same key gone ∙ not_gone (docs_of (map loaded_of es) gone) key unread)
-
--- ---- a tileset that is added
-
-tileset_is : (key : Key) → key.kind ≡ Tileset → tileset_key key.address ≡ key
-tileset_is key e = ap (λ kind. key_with key.address kind) (sym e)
-
-pub no_entry_yet : (es : List Entry) (gone : List Key) (key : Key) → key.kind ≡ Tileset
-    → unread_in es gone key ≡ true → lookup (pointwise nat_eq key.address) es ≡ None
-no_entry_yet es gone key kind e =
-    no_entry es key.address
-    (not_loaded (docs_of (map loaded_of es) gone) (tileset_key key.address)
-    (ap (unread_in es gone) (tileset_is key kind) ∙ e))
-
--- where the store isn't full there is room
-room_left : (store : Stored) (more : ℕ) (full : Bool) → (IsFull store more → IsTrue full)
-    → full ≡ false
-    → (total_bytes store.loaded + more ≤ STORE_BYTES) × (length store.loaded + 1 ≤ STORE_DOCUMENTS)
-room_left store more full told e =
-    let never : IsFull store more → ⊥ = λ f. true≢false (sym (told f) ∙ e) in (
-      grind (arith, λ (h : STORE_BYTES < total_bytes store.loaded + more). never (inr h)),
-      grind (arith, λ (h : STORE_DOCUMENTS < length store.loaded + 1). never (inl h)),
-    )
-
-pub kept_after : (es : List Entry) (store : Stored) (gone : List Key) (total : ℕ) (key : Key)
-    (bytes : List ℕ) (d : Option Document) (full : Bool) → AreKept es gone total
-    → store.loaded ≡ map loaded_of es → key.kind ≡ Tileset → unread_in es gone key ≡ true
-    → IsReading key.address (record { bytes = bytes; document = d })
-    → (IsFull store (length bytes) → IsTrue full) → full ≡ false
-    → AreKept (es ++ (key.address, record { bytes = bytes; document = d }) ∷ []) gone
-    (total + length bytes)
-kept_after es store gone total key bytes d full k loaded kind unread read told e =
-    let room = room_left store (length bytes) full told e in
-    let counted : length store.loaded ≡ length es = ap length loaded ∙ length-map es loaded_of in
-    are_kept_with es gone total (key.address, record { bytes = bytes; document = d }) k read
-    (not_gone (docs_of (map loaded_of es) gone) (tileset_key key.address)
-    (ap (unread_in es gone) (tileset_is key kind) ∙ unread))
-    (omega (arith, room.0, k.total_is, ap total_bytes loaded)) (omega (arith, room.1, counted))
-
--- the store is as before, with one more document
-pub added_view : (es es' : List Entry) (gone : List Key) (spare : ℕ) (key : Key)
-    (l : LoadedDocument) → key.kind ≡ Tileset → es' ≡ es ++ (key.address, l) ∷ []
-    → (store : Stored)
-    → record { loaded = map loaded_of es; gone = gone; spare = spare } ≡ store
-    → record { loaded = map loaded_of es'; gone = gone; spare = spare }
-    ≡ with_document store key l.bytes
-added_view es es' gone spare key l kind more store is =
-    ap (λ ls. record { loaded = ls; gone = gone; spare = spare })
-    (ap (map loaded_of) more ∙ loaded_more es (key.address, l)
-    ∙ ap (λ k. map loaded_of es ++ record { key = k; bytes = l.bytes } ∷ []) (tileset_is key kind))
-    ∙ ap (λ s. with_document s key l.bytes) is
+    (ap (λ p. list_any p gone) (same key)
+    ∙ not_gone (docs_of (map loaded_of es) gone) key unread)

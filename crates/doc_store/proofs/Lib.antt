@@ -1,5 +1,7 @@
+pub mod Keys
 pub mod Entries
-pub mod Reading
+pub mod Tilesets
 pub mod Opening
 pub mod Numbers
+pub mod Numbered
 pub mod Adding

@@ -1,13 +1,10 @@
 -- Documents by number.
-use Rattle.std.specs.Prelude.{if◌then◌else◌, option_map}
-use Rattle.std.proofs.Common.{Bor, ℕ, ◌+◌, ◌<◌, ◌≡◌, Bool, true, false, not, cond, Option, Some}
-use Rattle.std.proofs.Common.{None, List, [], ◌∷◌, length, map, position, slice_get, nat_eq, nat_lt}
+use Rattle.std.proofs.Common.{ℕ, ◌+◌, ◌<◌, ◌≡◌, Bool, true, false, not, cond, Some}
+use Rattle.std.proofs.Common.{None, List, [], ◌∷◌, length, map, position, slice_get, nat_lt}
 use Rattle.std.proofs.Common.{get_or, refl, sym, ◌∙◌, ap, ltb-true, zero, suc, ◌++◌, eqb}
 use Rattle.std.proofs.Common.{length-append, arith}
-use Rattle.std.specs.Option.{option_copied}
-use Rattle.std.specs.List.{position_or_len, prefix_len, AllByRecursion}
-use Rattle.std.specs.Map.{keys_of, lookup}
-use Rattle.std.specs.Cmp.Lexicographic.{pointwise, same_text as texts_agree}
+use Rattle.std.specs.List.{position_or_len, prefix_len}
+use Rattle.std.specs.Map.{keys_of}
 use Rattle.std.proofs.lemmas.List.{length-map}
 use Rattle.std.proofs.lemmas.Bool.{lt-ltb, ne_eqb}
 use Rattle.std.proofs.lemmas.List.Folds.{position_or_len_push}
@@ -15,14 +12,8 @@ use Rattle.std.proofs.lemmas.List.Sums.{passes_at_first}
 use Rattle.std.proofs.lemmas.Option.{get_or_from_slice_get}
 use Rattle.tile_types.specs.declared.key.Key.{Key}
 use Rattle.tile_types.specs.Keys.{same_key}
-use Rattle.tileset_schema.specs.declared.document.Document.{Document}
-use Rattle.tileset_schema.specs.Tiles.{WrittenTile}
-use Rattle.tileset_schema.specs.Preorder.{rows}
-use Rattle.doc_store.specs.Docs.{Docs, as_read, docs_of, found_in, lost, tileset_in, tileset_key}
-use Rattle.doc_store.specs.States.{rows_at, rows_found}
-use Rattle.doc_store.specs.declared.loaded_document.LoadedDocument.{LoadedDocument}
-use Rattle.doc_store.specs.Kept.{Entry, loaded_of, IsLoaded, IsRead, IsNotGone}
-use Rattle.doc_store.proofs.Entries.{lookup_finds}
+use Rattle.doc_store.specs.Kept.{Entry, loaded_of}
+use Rattle.tile_types.proofs.Keys.{key_is}
 
 -- ---- places in mapped lists
 
@@ -39,13 +30,13 @@ position-map f p xs =
     ∙ ap (λ n. cond (nat_lt (position_or_len (λ x. p (f x)) xs) n)
     (Some (position_or_len (λ x. p (f x)) xs)) None) (length-map xs f)
 
--- the place of an address among the keys is that of its document among the loaded ones
-pub numbers_agree : (es : List Entry) (address : List ℕ)
-    → position (pointwise nat_eq address) (keys_of es)
-    ≡ position (λ l. same_key (tileset_key address) l.key) (map loaded_of es)
-numbers_agree es address =
-    position-map (λ e. e.0) (pointwise nat_eq address) es
-    ∙ sym (position-map loaded_of (λ l. same_key (tileset_key address) l.key) es)
+-- the place of a key among the keys is that of its document among the loaded ones
+pub numbers_agree : (es : List Entry) (key : Key) (is : Key → Bool) → is ≡ same_key key
+    → position is (keys_of es) ≡ position (λ l. same_key key l.key) (map loaded_of es)
+numbers_agree es key is same =
+    ap (λ p. position p (keys_of es)) same
+    ∙ position-map (λ e. e.0) (same_key key) es
+    ∙ sym (position-map loaded_of (λ l. same_key key l.key) es)
 
 -- ---- what stands at the place that is found
 
@@ -66,49 +57,13 @@ position_passes p xs n x e at =
     ap p (sym (get_or_from_slice_get xs n x x at) ∙ ap (λ i. get_or xs i x) (sym place.1))
     ∙ passes_at_first p xs x within
 
--- the document of this number is that of this address
-pub number_names : (es : List Entry) (address : List ℕ) (n : ℕ) (entry : Entry)
-    → position (λ l. same_key (tileset_key address) l.key) (map loaded_of es) ≡ Some n
-    → slice_get es n ≡ Some entry → address ≡ entry.0
-number_names es address n entry e at =
-    texts_agree address entry.0
-    (sym (position_passes (λ x. pointwise nat_eq address x.0) es n entry
-    (sym (position-map loaded_of (λ l. same_key (tileset_key address) l.key) es) ∙ e) at))
-
--- ---- tiles of what is loaded
-
-rows_as_read : (o : Option WrittenTile) → rows_found (as_read o) ≡ option_map rows o
-rows_as_read None = refl
-rows_as_read (Some root) = refl
-
-pub loaded_rows : (docs : Docs) (address : List ℕ) (l : LoadedDocument)
-    → IsLoaded docs (tileset_key address) l
-    → option_map (λ d. d.rows) l.document ≡ rows_at docs address
-loaded_rows docs address l is =
-    is.read.tiles
-    ∙ sym (ap (λ b. rows_found (if b then lost
-    else found_in (tileset_in address) (docs.loaded (tileset_key address)))) is.present
-    ∙ ap (λ o. rows_found (found_in (tileset_in address) o)) is.loaded
-    ∙ rows_as_read (tileset_in address l.bytes))
-
-copied_rows : (r : Option (Bor Document)) (o : Option Document) → option_copied r ≡ o
-    → option_map (λ d. d.now.rows) r ≡ option_map (λ d. d.rows) o
-copied_rows None o e = ap (option_map (λ d. d.rows)) e
-copied_rows (Some d) o e = ap (option_map (λ d. d.rows)) e
-
--- the document of a number is what stands at its address
-pub numbered_rows : (es : List Entry) (gone : List Key) → AllByRecursion IsRead es
-    → AllByRecursion (IsNotGone gone) es → (n : ℕ) (key : List ℕ) (l : LoadedDocument)
-    → Some (key, l) ≡ slice_get es n → lookup (pointwise nat_eq key) es ≡ Some l
-    → (r : Option (Bor Document)) → option_copied r ≡ l.document → (address : List ℕ)
-    → position (λ l. same_key (tileset_key address) l.key) (map loaded_of es) ≡ Some n
-    → option_map (λ d. d.now.rows) r ≡ rows_at (docs_of (map loaded_of es) gone) address
-numbered_rows es gone read apart n key l at found r copied address e =
-    copied_rows r l.document copied
-    ∙ loaded_rows (docs_of (map loaded_of es) gone) key l
-    (lookup_finds es gone read apart key (Some l) found)
-    ∙ ap (rows_at (docs_of (map loaded_of es) gone))
-    (sym (number_names es address n (key, l) e (sym at)))
+-- the document of this number is that of this key
+pub number_names : (es : List Entry) (key : Key) (n : ℕ) (entry : Entry)
+    → position (λ l. same_key key l.key) (map loaded_of es) ≡ Some n
+    → slice_get es n ≡ Some entry → key ≡ entry.0
+number_names es key n entry e at =
+    key_is key entry.0 (position_passes (λ x. same_key key x.0) es n entry
+    (sym (position-map loaded_of (λ l. same_key key l.key) es) ∙ e) at)
 
 -- ---- while documents are added
 

@@ -9,11 +9,11 @@ use Rattle.tile_uri.proofs.OwnTexts.{own_text}
 use Rattle.tileset_schema.specs.Tiles.{WrittenTile}
 use Rattle.tileset_schema.specs.Documents.{document}
 use Rattle.tileset_schema.specs.Preorder.{Row, rows_read}
-use Rattle.doc_store.specs.Docs.{Loaded, as_read, here, docs_of, found_in, read_at, root_in}
+use Rattle.doc_store.specs.Docs.{Loaded, as_read, here, docs_of, found_in, read_at, if_read}
 use Rattle.doc_store.specs.Docs.{tileset_at, tileset_in, tileset_key}
 use Rattle.doc_store.specs.Store.{Stored, IsAlone, IsOpened}
 use Rattle.doc_store.specs.States.{rows_in}
-use Rattle.doc_store.proofs.Reading.{below_address, read_rows}
+use Rattle.doc_store.proofs.Tilesets.{below_address, read_rows}
 
 -- at an address the document is that of these bytes
 pub rows_at_root : (root text bytes : List ℕ) (rs : List Row) → is_address root ≡ true
@@ -30,7 +30,7 @@ root_is_read : (root bytes : List ℕ) (tree : WrittenTile) → is_address root 
 unfolding tileset_in
 root_is_read root bytes tree address short is =
     ap (read_at bytes) (own_text root (record { address = address; short = short }))
-    ∙ ap root_in is
+    ∙ ap if_read is
 
 abbrev alone : List ℕ → List ℕ → Loaded
 alone root bytes = record { key = tileset_key root; bytes = bytes }

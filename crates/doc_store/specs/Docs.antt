@@ -3,23 +3,20 @@ use Rattle.std.specs.Prelude.{ℕ, Bool, not, ◌&&◌, if◌then◌else◌, Opt
 use Rattle.std.specs.Prelude.{Result, Ok, Err, List, [], ◌∷◌}
 use Rattle.std.specs.List.{list_any}
 use Rattle.tile_types.specs.declared.key.Key.{Key}
-use Rattle.tile_types.specs.declared.key.Kind.TheVariants.{Content, Tileset}
+use Rattle.tile_types.specs.declared.key.Kind.{Kind}
+use Rattle.tile_types.specs.declared.key.Kind.TheVariants.{Content, Tileset, Subtree}
 use Rattle.tile_types.specs.Keys.{same_kind, same_key}
 use Rattle.tile_uri.specs.Addresses.{address_of}
-use Rattle.tileset_schema.specs.Causes.{Read}
 use Rattle.tileset_schema.specs.Documents.{document}
 use Rattle.tileset_schema.specs.Tiles.{WrittenTile}
+use Rattle.subtree_binary.specs.Reading.{subtree}
+use Rattle.subtree_binary.specs.Subtrees.{SubtreeParts}
+pub use Rattle.subtree_binary.specs.Found.{Found, waiting, lost, here, here_of}
 
 -- the bytes of the loaded keys, and which keys are absent
 pub record Docs : Type 0 where
   pub loaded : Key → Option (List ℕ)
   pub gone : Key → Bool
-
--- what is known of a key: it is neither loaded nor absent; nothing comes of it; it reads as this
-pub data Found (A : Type 0) : Type 0 where
-  waiting : Found A
-  lost : Found A
-  here : A → Found A
 
 -- ---- documents from lists
 
@@ -37,19 +34,28 @@ docs_of loaded gone = record {
   gone = λ key. list_any (same_key key) gone;
 }
 
--- ---- what is known of a key
+-- ---- what bytes are read as
 
-abbrev pub root_in : Read WrittenTile → Option WrittenTile
-root_in (Ok root) = Some root
-root_in (Err e) = None
+abbrev pub if_read : {E A : Type 0} → Result A E → Option A
+if_read (Ok a) = Some a
+if_read (Err e) = None
 
 abbrev pub read_at : {E : Type 0} → List ℕ → Result (List ℕ) E → Option WrittenTile
-read_at bytes (Ok base) = root_in (document bytes base)
+read_at bytes (Ok base) = if_read (document bytes base)
 read_at bytes (Err e) = None
 
 -- the root tile of the document that these bytes are at this address, if they are one
 unfoldable pub tileset_in : List ℕ → List ℕ → Option WrittenTile
 tileset_in address bytes = read_at bytes (address_of address)
+
+-- the subtree that these bytes are for a key of this kind, if they are one
+abbrev pub subtree_for : Kind → List ℕ → Option SubtreeParts
+subtree_for Content bytes = None
+subtree_for Tileset bytes = None
+subtree_for (Subtree octree levels contents) bytes =
+    if_read (subtree octree levels contents bytes)
+
+-- ---- what is known of a key
 
 -- bytes that are refused are lost
 abbrev pub as_read : {A : Type 0} → Option A → Found A
@@ -75,6 +81,10 @@ is_tileset key = same_kind key.kind Tileset
 -- the tileset at an address
 abbrev pub tileset_at : Docs → List ℕ → Found WrittenTile
 tileset_at docs address = found (tileset_in address) docs (tileset_key address)
+
+-- the subtree of a key
+abbrev pub subtree_at : Docs → Key → Found SubtreeParts
+subtree_at docs key = found (subtree_for key.kind) docs key
 
 -- the key is neither loaded nor absent
 abbrev pub is_unread : Docs → Key → Bool

@@ -1,8 +1,12 @@
 -- What a store holds.
-use Rattle.std.specs.Prelude.{◌≡◌, ◌⊎◌, ◌<◌, ◌+◌, ℕ, Ok, List, [], ◌∷◌, ◌++◌, length}
+use Rattle.std.specs.Prelude.{◌≡◌, ◌⊎◌, ◌<◌, ◌≤◌, ◌+◌, ⊤, ℕ, Bool, Ok, List, [], ◌∷◌, ◌++◌}
+use Rattle.std.specs.Prelude.{length}
 use Rattle.tile_types.specs.declared.key.Key.{Key}
+use Rattle.tile_types.specs.declared.key.Kind.{Kind}
+use Rattle.tile_types.specs.declared.key.Kind.TheVariants.{Content, Tileset, Subtree}
 use Rattle.tileset_schema.specs.Documents.{document}
 use Rattle.tileset_schema.specs.Tiles.{WrittenTile}
+use Rattle.subtree_binary.specs.Counts.{level_limit}
 use Rattle.doc_store.specs.Docs.{Docs, Loaded, here, docs_of, tileset_at, tileset_key}
 use Rattle.doc_store.specs.declared.limits.TheConstants.{STORE_BYTES, STORE_DOCUMENTS}
 
@@ -16,6 +20,21 @@ pub record Stored : Type 0 where
 abbrev pub docs : Stored → Docs
 docs store = docs_of store.loaded store.gone
 
+-- ---- documents
+
+-- a subtree has this many levels (OGC 22-025r4, "Subtrees")
+pub record IsWithinLevels (octree : Bool) (levels : ℕ) : Type 0 where
+  pub some : 1 ≤ levels
+  pub few : levels ≤ level_limit octree
+
+-- a document is a tileset, or a subtree whose levels are within the limits
+abbrev pub IsDocumentKind : Kind → Type 0
+IsDocumentKind Content = ⊥
+IsDocumentKind Tileset = ⊤
+IsDocumentKind (Subtree octree levels contents) = IsWithinLevels octree levels
+
+-- ---- room
+
 abbrev pub total_bytes : List Loaded → ℕ
 total_bytes [] = 0
 total_bytes (l ∷ ls) = length l.bytes + total_bytes ls
@@ -24,6 +43,8 @@ total_bytes (l ∷ ls) = length l.bytes + total_bytes ls
 abbrev pub IsFull : Stored → ℕ → Type 0
 IsFull store more =
     (STORE_DOCUMENTS < length store.loaded + 1) ⊎ (STORE_BYTES < total_bytes store.loaded + more)
+
+-- ---- stores
 
 -- the store with one more document
 abbrev pub with_document : Stored → Key → List ℕ → Stored

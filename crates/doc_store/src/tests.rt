@@ -2,9 +2,12 @@
 //! and printed texts. Expected values are worked out by hand from the documents' texts.
 
 ghost use Rattle.std.specs.Prelude.{◌≡◌, IfOk};
-ghost use Rattle.tile_types.specs.declared.key.Kind.TheVariants.{Tileset};
+ghost use Rattle.doc_store.specs.Store.{IsDocumentKind};
+
+mod subtrees;
 
 use super::*;
+use avail_bits::{OCTREE_SUBTREE_LEVELS, QUADTREE_SUBTREE_LEVELS};
 use bytes::Bytes;
 use std::alloc::{AllocError, Global};
 use std::process::Abort;
@@ -38,11 +41,11 @@ fn address(alloc: Global, text: &str) -> Result<Address, Fail> {
     Ok(base.resolve(alloc, text)?)
 }
 
-fn tileset_key(alloc: Global, text: &str) -> Result<Key, AllocError>
-    ensures { IfOk result (λ key. key.kind ≡ Tileset) }
+fn key(alloc: Global, kind: Kind, text: &str) -> Result<Key, AllocError>
+    ensures { IfOk result (λ key. key.kind ≡ kind) }
 {
     Ok(Key {
-        kind: Kind::Tileset,
+        kind,
         address: Text::new(alloc, text)?,
     })
 }
@@ -55,18 +58,51 @@ fn nest(rt: &impl Abort, alloc: Global) -> Result<DocStore, Fail> {
     Ok(DocStore::open(alloc, &address(alloc, root)?, bytes)?)
 }
 
-/// Adds a tileset of which nothing is known.
+/// The kind is a document's.
+fn check_kind(rt: &impl Abort, kind: Kind)
+    ensures { IsDocumentKind kind }
+{
+    match kind {
+        Kind::Content => assert!(rt; false),
+        Kind::Tileset => {}
+        Kind::Subtree { octree, levels, .. } => {
+            let most = if octree {
+                OCTREE_SUBTREE_LEVELS
+            } else {
+                QUADTREE_SUBTREE_LEVELS
+            };
+            assert!(rt; 1 <= levels && levels <= most);
+        }
+    }
+}
+
+/// Adds a document of which nothing is known.
 fn add(
     rt: &impl Abort,
     alloc: Global,
     store: &mut DocStore,
+    kind: Kind,
     text: &str,
     bytes: Bytes,
 ) -> Result<Added, Fail> {
-    let key = tileset_key(alloc, text)?;
+    let key = key(alloc, kind, text)?;
+    check_kind(rt, kind);
     assert!(rt; bytes.len() <= DOCUMENT_LIMIT as usize);
     assert!(rt; store.state_of(&key) == DocState::NotLoaded);
     Ok(store.add(alloc, key, bytes)?)
+}
+
+/// Adds a document of which nothing is known, and for which there is room.
+fn keep(
+    rt: &impl Abort,
+    alloc: Global,
+    store: &mut DocStore,
+    kind: Kind,
+    text: &str,
+    bytes: Bytes,
+) -> Result<(), Fail> {
+    assert_eq!(rt; add(rt, alloc, store, kind, text, bytes)?, Added::Kept);
+    Ok(())
 }
 
 /// The first content of the root tile.
@@ -83,17 +119,16 @@ fn a_nest_of_documents(rt: HostRuntime) -> Result<(), Fail> {
     let alloc = rt.alloc();
     let mut store = nest(&rt, alloc)?;
     for (text, content, _) in NEST.iter().skip(1) {
-        assert_eq!(rt;
-            add(&rt, alloc, &mut store, text, document(alloc, content)?)?,
-            Added::Kept
-        );
+        let bytes = document(alloc, content)?;
+        keep(&rt, alloc, &mut store, Kind::Tileset, text, bytes)?;
     }
     for (number, (text, _, below)) in (0..3).zip(NEST.iter()) {
-        let key = tileset_key(alloc, text)?;
+        let key = key(alloc, Kind::Tileset, text)?;
         assert_eq!(rt; store.state_of(&key), DocState::Read);
-        assert_eq!(rt; store.number_of(&key.address), Some(number));
-        assert_eq!(rt; content_of(store.tileset(&key.address)), Some(*below));
+        assert_eq!(rt; store.number_of(&key), Some(number));
+        assert_eq!(rt; content_of(store.tileset(&key)), Some(*below));
         assert_eq!(rt; content_of(store.document(number)), Some(*below));
+        assert!(rt; store.document_at(number) == Some(&key));
     }
     Ok(())
 }
@@ -109,7 +144,7 @@ fn the_root_document(rt: HostRuntime) -> Result<(), Fail> {
     assert_eq!(rt; store.root().as_str(), "http://tiles/t.json");
     for text in BEHIND.iter() {
         let bytes = document(alloc, "w.glb")?;
-        assert_eq!(rt; add(&rt, alloc, &mut store, text, bytes)?, Added::Kept);
+        keep(&rt, alloc, &mut store, Kind::Tileset, text, bytes)?;
         assert_eq!(rt; store.root().as_str(), "http://tiles/t.json");
     }
     Ok(())
@@ -161,10 +196,10 @@ fn refused_tilesets(rt: HostRuntime) -> Result<(), Fail> {
     let mut store = nest(&rt, alloc)?;
     for (text, content) in REFUSED.iter() {
         let bytes = refused_bytes(alloc, content)?;
-        assert_eq!(rt; add(&rt, alloc, &mut store, text, bytes)?, Added::Kept);
-        let key = tileset_key(alloc, text)?;
+        keep(&rt, alloc, &mut store, Kind::Tileset, text, bytes)?;
+        let key = key(alloc, Kind::Tileset, text)?;
         assert_eq!(rt; store.state_of(&key), DocState::Refused);
-        assert!(rt; store.tileset(&key.address).is_none());
+        assert!(rt; store.tileset(&key).is_none());
     }
     Ok(())
 }
@@ -174,11 +209,11 @@ fn an_absent_tileset(rt: HostRuntime) -> Result<(), Fail> {
     let alloc = rt.alloc();
     let mut store = nest(&rt, alloc)?;
     store.reserve(1)?;
-    let key = tileset_key(alloc, "http://tiles/x.json")?;
+    let key = key(alloc, Kind::Tileset, "http://tiles/x.json")?;
     assert_eq!(rt; store.state_of(&key), DocState::NotLoaded);
     store.mark_absent(key.copy(alloc)?);
     assert_eq!(rt; store.state_of(&key), DocState::Absent);
-    assert_eq!(rt; store.number_of(&key.address), None);
+    assert_eq!(rt; store.number_of(&key), None);
     Ok(())
 }
 
@@ -204,11 +239,8 @@ fn a_text_too_long_for_an_address(rt: HostRuntime) -> Result<(), Fail> {
         text.push('a')?;
     }
     let bytes = document(alloc, "c.glb")?;
-    assert_eq!(rt;
-        add(&rt, alloc, &mut store, text.as_str(), bytes)?,
-        Added::Kept
-    );
-    let key = tileset_key(alloc, text.as_str())?;
+    keep(&rt, alloc, &mut store, Kind::Tileset, text.as_str(), bytes)?;
+    let key = key(alloc, Kind::Tileset, text.as_str())?;
     assert_eq!(rt; store.state_of(&key), DocState::Refused);
     Ok(())
 }
@@ -228,8 +260,14 @@ fn add_fifteen(
 ) -> Result<(), Fail> {
     for number in 0..15 {
         let text = format!(in alloc; "http://tiles/{number}.json")?;
-        let added = add(rt, alloc, store, text.as_str(), large.clone()?)?;
-        assert_eq!(rt; added, Added::Kept);
+        keep(
+            rt,
+            alloc,
+            store,
+            Kind::Tileset,
+            text.as_str(),
+            large.clone()?,
+        )?;
     }
     Ok(())
 }
@@ -244,7 +282,7 @@ fn add_first(
     len: usize,
 ) -> Result<Added, Fail> {
     assert!(rt; len <= bytes.len());
-    add(rt, alloc, store, text, bytes.slice(..len)?)
+    add(rt, alloc, store, Kind::Tileset, text, bytes.slice(..len)?)
 }
 
 /// What is added behind the nest's root document, which has 147 bytes, and fifteen documents of
@@ -276,14 +314,21 @@ fn full_by_documents(rt: HostRuntime) -> Result<(), Fail> {
     let empty = Bytes::new();
     for number in 1..STORE_DOCUMENTS {
         let text = format!(in alloc; "{number}")?;
-        assert_eq!(rt;
-            add(&rt, alloc, &mut store, text.as_str(), empty.clone()?)?,
-            Added::Kept
-        );
+        keep(
+            &rt,
+            alloc,
+            &mut store,
+            Kind::Tileset,
+            text.as_str(),
+            empty.clone()?,
+        )?;
     }
-    assert_eq!(rt; add(&rt, alloc, &mut store, "0", empty)?, Added::Full);
-    let key = tileset_key(alloc, "65534")?;
-    assert_eq!(rt; store.number_of(&key.address), Some(65534));
+    assert_eq!(rt;
+        add(&rt, alloc, &mut store, Kind::Tileset, "0", empty)?,
+        Added::Full
+    );
+    let key = key(alloc, Kind::Tileset, "65534")?;
+    assert_eq!(rt; store.number_of(&key), Some(65534));
     Ok(())
 }
 

@@ -10,17 +10,17 @@ use Rattle.tileset_schema.specs.Causes.{Read}
 use Rattle.tileset_schema.specs.Documents.{document}
 use Rattle.tileset_schema.specs.Tiles.{WrittenTile}
 use Rattle.tileset_schema.specs.Preorder.{Row, rows, rows_read}
-use Rattle.doc_store.specs.Docs.{read_at, root_in, tileset_in}
+use Rattle.doc_store.specs.Docs.{read_at, if_read, tileset_in}
 use Rattle.doc_store.specs.States.{rows_in}
 
 -- the rows of what is read
 pub read_rows : (r : Read WrittenTile) (rs : List Row) → rows_read r ≡ Ok rs
-    → option_map rows (root_in r) ≡ Some rs
+    → option_map rows (if_read r) ≡ Some rs
 read_rows (Ok root) rs e = let same : rows root ≡ rs = cc in ap Some same
 read_rows (Err cause) rs e = cc
 
 pub no_rows : (r : Read WrittenTile) (cause : DocumentError) → rows_read r ≡ Err cause
-    → option_map rows (root_in r) ≡ None
+    → option_map rows (if_read r) ≡ None
 no_rows (Ok root) cause e = cc
 no_rows (Err other) cause e = refl
 
@@ -32,7 +32,7 @@ refused_address address bytes e none = ap (λ r. option_map rows (read_at bytes 
 
 -- at the text of an address it is the document below that address
 pub below_address : (address bytes base : List ℕ) → address_of address ≡ Ok base
-    → rows_in address bytes ≡ option_map rows (root_in (document bytes base))
+    → rows_in address bytes ≡ option_map rows (if_read (document bytes base))
 unfolding tileset_in
 below_address address bytes base is = ap (λ r. option_map rows (read_at bytes r)) is
 

@@ -1,8 +1,8 @@
 use Rattle.std.proofs.Common.{sym, ◌∙◌, ap}
 use Rattle.tile_uri.specs.declared.error.UriError.TheVariants.{NotAnAddress, TooLong, Placeholder}
 use Rattle.tile_uri.specs.Addresses.{address_of}
-use Rattle.doc_store.proofs.Reading.{below_address, refuses}
-use Rattle.doc_store.proofs.loaded_document.read_at.Goals as goal
+use Rattle.doc_store.proofs.Tilesets.{below_address, refuses}
+use Rattle.doc_store.proofs.reading.read_at.Goals as goal
 
 pub returns-in-Ok-clause-tiles : goal.returns-in-Ok-clause-tiles
 returns-in-Ok-clause-tiles c =
