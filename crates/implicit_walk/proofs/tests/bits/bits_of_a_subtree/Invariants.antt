@@ -1,0 +1,4 @@
+use Rattle.implicit_walk.proofs.tests.bits.bits_of_a_subtree.Given as goal
+
+abbrev pub ghosts-check_rows : goal.ghosts-check_rows
+ghosts-check_rows g a = record { name = a.blank.name; parts = a.blank.parts }
