@@ -3,7 +3,8 @@ use Rattle.std.proofs.Common.{ℕ, ◌≡◌, ◌⊎◌, inl, inr, true, false, 
 use Rattle.std.specs.Prelude.{if◌then◌else◌}
 use Rattle.tile_types.specs.declared.key.Key.{Key}
 use Rattle.source_port.specs.Library.{Library}
-use Rattle.doc_store.specs.Docs.{Docs, waiting, lost, found, found_in, tileset_in, tileset_key}
+use Rattle.subtree_binary.specs.Found.{waiting, lost}
+use Rattle.doc_store.specs.Docs.{Docs, found, found_in, tileset_in, tileset_key, subtree_for}
 use Rattle.tree_expansion.specs.Expansion.{expand}
 use Rattle.tree_expansion.specs.Growth.{Extends, RootGrown}
 use Rattle.tree_expansion.specs.Whole.{AgreesWith, full, whole_docs}
@@ -32,10 +33,11 @@ library_extends : (library : Library) (docs : Docs) → AgreesWith library docs
     → Extends docs (whole_docs library)
 library_extends library docs a = record {
   tilesets = λ address. found_stays (tileset_in address) library docs (tileset_key address) a;
+  subtrees = λ key. found_stays (subtree_for key.kind) library docs key a;
 }
 
 pub grows_into_full : (library : Library) (docs : Docs) → AgreesWith library docs
-    → (root : List ℕ) → RootGrown (expand docs root) (full library root)
+    → (root : List ℕ) → RootGrown (whole_docs library) (expand docs root) (full library root)
 unfolding full
 grows_into_full library docs a root =
     expanded_grows docs (whole_docs library) (library_extends library docs a) root

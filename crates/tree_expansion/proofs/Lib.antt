@@ -1,6 +1,8 @@
-pub mod Waits
-pub mod Grows
-pub mod Agreeing
+mod Within
+mod Learned
+mod Grows
+mod Agreeing
 pub mod Wholes
-pub mod Seeing
+mod Seeing
+mod Waits
 pub mod Unseen

@@ -6,11 +6,12 @@ use Rattle.std.proofs.lemmas.Grind.{flat_map-append}
 use Rattle.std.proofs.lemmas.List.Folds.{list_all-append}
 use Rattle.tile_types.specs.declared.key.Key.{Key}
 use Rattle.error_test.specs.Views.{ViewParts, culled}
+use Rattle.doc_store.specs.Docs.{Docs}
 use Rattle.expanded_tree.specs.Facts.{Facts, culls, is_known, may_want}
 use Rattle.expanded_tree.specs.Tree.{Tree, TileParts, Trees, tile, pending, list_of}
 use Rattle.cut_core.specs.declared.line.CutLine.{CutLine}
 use Rattle.cut_core.specs.Cut.{Holdings, is_empty, is_culled, is_pending, wants, adds, lacks_own, has_own, itself, is_ready, all_ready, shown_tiles, all_shown_tiles, lines_of, cut}
-use Rattle.cut_core.specs.Visits.{visited_nodes}
+use Rattle.cut_core.specs.Visits.{visited_nodes, visits}
 use Rattle.cut_core.specs.Laws.{IsLoaded}
 use Rattle.cut_core.proofs.Bools.{and_left, and_right}
 use Rattle.cut_core.proofs.Lists.{append-nil}
@@ -18,9 +19,12 @@ use Rattle.cut_core.proofs.CutSteps.{all_ready-list, all_shown-list, visited_wan
 use Rattle.tree_expansion.specs.Growth.{Grown, StandsFor, same_tile, read, AllGrown, none_grown, more_grown, dropped, RootGrown}
 use Rattle.tree_expansion.specs.Seen.{KeepsChildren, KeepsAll, KeepsBelow, RootKeeps}
 
+abbrev pub is_loaded : Tree → Bool
+is_loaded t = not (is_pending t)
+
 -- no node among these is pending
 abbrev pub are_loaded : List Tree → Bool
-are_loaded ts = list_all (λ t. not (is_pending t)) ts
+are_loaded ts = list_all is_loaded ts
 
 and_false : (b : Bool) → (b && false) ≡ false
 and_false true = refl
@@ -196,31 +200,42 @@ module _ (view : ViewParts) (holdings : Holdings) where
     | inr same ↦ ap (is_known (λ volume. culled volume view)) same ∙ c
   ]
 
-  emptied : (ts us : List Tree) → AllGrown ts us → is_empty ts ≡ true → is_empty us ≡ true
-  emptied ts us none_grown e = refl
-  emptied ts us (more_grown t u ts' us' g gs) e = cc
-  emptied ts us (dropped name facts key ts' us' gs) e = cc
+  emptied : (new : Docs) (ts us : List Tree) → AllGrown new ts us → is_empty ts ≡ true
+      → is_empty us ≡ true
+  emptied new ts us none_grown e = refl
+  emptied new ts us (more_grown t u ts' us' g gs) e = cc
+  emptied new ts us (dropped name facts key ts' us' why gs) e = cc
 
-  pub loaded_below : (parts : TileParts) (ts : Trees) → is_culled view (tile parts ts) ≡ false
-      → wants view (tile parts ts) ≡ true
-      → are_loaded (visited_nodes view (tile parts ts)) ≡ true
-      → are_loaded (flat_map (visited_nodes view) (list_of ts)) ≡ true
-  loaded_below parts ts c w e = sym (ap are_loaded (visited_wants view (tile parts ts) c w)) ∙ e
+  -- what holds of the visited nodes of a tile that wants its children holds of it, and of those of
+  -- its children
+  pub holds_here : (p : Tree → Bool) (parts : TileParts) (ts : Trees)
+      → is_culled view (tile parts ts) ≡ false → wants view (tile parts ts) ≡ true
+      → list_all p (visited_nodes view (tile parts ts)) ≡ true → p (tile parts ts) ≡ true
+  holds_here p parts ts c w e =
+      and_left (p (tile parts ts)) _
+      (sym (ap (list_all p) (visited_wants view (tile parts ts) c w)) ∙ e)
 
-  pub first_loaded : (t : Tree) (ts : List Tree)
-      → are_loaded (flat_map (visited_nodes view) (t ∷ ts)) ≡ true
-      → are_loaded (visited_nodes view t) ≡ true
-  first_loaded t ts e =
-      and_left _ _ (sym (list_all-append (λ u. not (is_pending u)) (visited_nodes view t)
-      (flat_map (visited_nodes view) ts)) ∙ e)
+  pub holds_below : (p : Tree → Bool) (parts : TileParts) (ts : Trees)
+      → is_culled view (tile parts ts) ≡ false → wants view (tile parts ts) ≡ true
+      → list_all p (visited_nodes view (tile parts ts)) ≡ true
+      → list_all p (flat_map (visited_nodes view) (list_of ts)) ≡ true
+  holds_below p parts ts c w e =
+      and_right (p (tile parts ts)) _
+      (sym (ap (list_all p) (visited_wants view (tile parts ts) c w)) ∙ e)
 
-  pub rest_loaded : (t : Tree) (ts : List Tree)
-      → are_loaded (flat_map (visited_nodes view) (t ∷ ts)) ≡ true
-      → are_loaded (flat_map (visited_nodes view) ts) ≡ true
-  rest_loaded t ts e =
-      and_right (are_loaded (visited_nodes view t)) _
-      (sym (list_all-append (λ u. not (is_pending u)) (visited_nodes view t)
-      (flat_map (visited_nodes view) ts)) ∙ e)
+  pub holds_first : (p : Tree → Bool) (t : Tree) (ts : List Tree)
+      → list_all p (flat_map (visited_nodes view) (t ∷ ts)) ≡ true
+      → list_all p (visited_nodes view t) ≡ true
+  holds_first p t ts e =
+      and_left _ _
+      (sym (list_all-append p (visited_nodes view t) (flat_map (visited_nodes view) ts)) ∙ e)
+
+  pub holds_rest : (p : Tree → Bool) (t : Tree) (ts : List Tree)
+      → list_all p (flat_map (visited_nodes view) (t ∷ ts)) ≡ true
+      → list_all p (flat_map (visited_nodes view) ts) ≡ true
+  holds_rest p t ts e =
+      and_right (list_all p (visited_nodes view t)) _
+      (sym (list_all-append p (visited_nodes view t) (flat_map (visited_nodes view) ts)) ∙ e)
 
   one_more : (t u : Tree) (ts us : List Tree) → Same t u → AllSame ts us
       → AllSame (t ∷ ts) (u ∷ us)
@@ -238,56 +253,61 @@ module _ (view : ViewParts) (holdings : Holdings) where
     empty = refl;
   }
 
-  mutual
-    grown_same : (t u : Tree) (g : Grown t u) → KeepsChildren view t u g
-        → are_loaded (visited_nodes view t) ≡ true → Same t u
-    grown_same t u (same_tile parts ts us g) k e =
-        tile_same parts ts us (emptied (list_of ts) (list_of us) g)
-        (λ c w. all_grown_same (list_of ts) (list_of us) g (k c w) (loaded_below parts ts c w e))
-    grown_same t u (read name facts key v s) k e =
-        let c : culls view facts ≡ true = unvisited name facts key e in
-        same_culled (pending name facts key) v c (read_culled name facts v s c)
+  module _ (new : Docs) where
+    mutual
+      grown_same : (t u : Tree) (g : Grown new t u) → KeepsChildren view new t u g
+          → are_loaded (visited_nodes view t) ≡ true → Same t u
+      grown_same t u (same_tile parts ts us g) k e =
+          tile_same parts ts us (emptied new (list_of ts) (list_of us) g)
+          (λ c w. all_grown_same (list_of ts) (list_of us) g (k c w)
+          (holds_below is_loaded parts ts c w e))
+      grown_same t u (read name facts key v found s) k e =
+          let c : culls view facts ≡ true = unvisited name facts key e in
+          same_culled (pending name facts key) v c (read_culled name facts v s c)
 
-    all_grown_same : (ts us : List Tree) (g : AllGrown ts us) → KeepsAll view ts us g
-        → are_loaded (flat_map (visited_nodes view) ts) ≡ true → AllSame ts us
-    all_grown_same ts us none_grown k e = record { lines = refl; ready = refl; empty = refl }
-    all_grown_same ts us (more_grown t u ts' us' g gs) k e =
-        one_more t u ts' us' (grown_same t u g k.0 (first_loaded t ts' e))
-        (all_grown_same ts' us' gs k.1 (rest_loaded t ts' e))
-    all_grown_same ts us (dropped name facts key ts' us' gs) k e = absurd k
+      all_grown_same : (ts us : List Tree) (g : AllGrown new ts us) → KeepsAll view new ts us g
+          → are_loaded (flat_map (visited_nodes view) ts) ≡ true → AllSame ts us
+      all_grown_same ts us none_grown k e = record { lines = refl; ready = refl; empty = refl }
+      all_grown_same ts us (more_grown t u ts' us' g gs) k e =
+          one_more t u ts' us' (grown_same t u g k.0 (holds_first is_loaded t ts' e))
+          (all_grown_same ts' us' gs k.1 (holds_rest is_loaded t ts' e))
+      all_grown_same ts us (dropped name facts key ts' us' why gs) k e = absurd k
 
-  -- ---- roots
+    -- ---- roots
 
-  root_lines : (ts us : List Tree) (g : AllGrown ts us) → KeepsBelow view ts us g
-      → are_loaded (flat_map (visited_nodes view) ts) ≡ true
-      → lines_in (flat_map (shown_tiles view holdings) ts)
-      ≡ lines_in (flat_map (shown_tiles view holdings) us)
-  root_lines ts us none_grown k e = refl
-  root_lines ts us (more_grown t u ts' us' g gs) k e =
-      flat_map-append (lines_of holdings) (shown_tiles view holdings t)
-      (flat_map (shown_tiles view holdings) ts')
-      ∙ ap (λ ls. ls ++ lines_in (flat_map (shown_tiles view holdings) ts'))
-      (grown_same t u g k.0 (first_loaded t ts' e)).lines
-      ∙ ap (λ ls. lines_in (shown_tiles view holdings u) ++ ls)
-      (root_lines ts' us' gs k.1 (rest_loaded t ts' e))
-      ∙ sym (flat_map-append (lines_of holdings) (shown_tiles view holdings u)
-      (flat_map (shown_tiles view holdings) us'))
-  root_lines ts us (dropped name facts key ts' us' gs) k e =
-      root_lines ts' us' gs k (rest_loaded (pending name facts key) ts' e)
+    root_lines : (ts us : List Tree) (g : AllGrown new ts us) → KeepsBelow view new ts us g
+        → are_loaded (flat_map (visited_nodes view) ts) ≡ true
+        → lines_in (flat_map (shown_tiles view holdings) ts)
+        ≡ lines_in (flat_map (shown_tiles view holdings) us)
+    root_lines ts us none_grown k e = refl
+    root_lines ts us (more_grown t u ts' us' g gs) k e =
+        flat_map-append (lines_of holdings) (shown_tiles view holdings t)
+        (flat_map (shown_tiles view holdings) ts')
+        ∙ ap (λ ls. ls ++ lines_in (flat_map (shown_tiles view holdings) ts'))
+        (grown_same t u g k.0 (holds_first is_loaded t ts' e)).lines
+        ∙ ap (λ ls. lines_in (shown_tiles view holdings u) ++ ls)
+        (root_lines ts' us' gs k.1 (holds_rest is_loaded t ts' e))
+        ∙ sym (flat_map-append (lines_of holdings) (shown_tiles view holdings u)
+        (flat_map (shown_tiles view holdings) us'))
+    root_lines ts us (dropped name facts key ts' us' why gs) k e =
+        root_lines ts' us' gs k (holds_rest is_loaded (pending name facts key) ts' e)
 
   cut_listed : (root : Option Tree) → cut view holdings root
       ≡ lines_in (flat_map (shown_tiles view holdings) (option_to_list root))
   cut_listed None = refl
   cut_listed (Some t) = ap lines_in (sym (append-nil (shown_tiles view holdings t)))
 
-  pub visits_listed : (root : Option Tree) → IsLoaded view root
-      → are_loaded (flat_map (visited_nodes view) (option_to_list root)) ≡ true
-  visits_listed None e = refl
-  visits_listed (Some t) e = ap are_loaded (append-nil (visited_nodes view t)) ∙ e
+  pub visits_listed : (p : Tree → Bool) (root : Option Tree)
+      → list_all p (visits view root) ≡ true
+      → list_all p (flat_map (visited_nodes view) (option_to_list root)) ≡ true
+  visits_listed p None e = refl
+  visits_listed p (Some t) e = ap (list_all p) (append-nil (visited_nodes view t)) ∙ e
 
-  pub cut_stays : (old new : Option Tree) (g : RootGrown old new) → RootKeeps view old new g
-      → IsLoaded view old → cut view holdings old ≡ cut view holdings new
-  cut_stays old new g k e =
-      cut_listed old
-      ∙ root_lines (option_to_list old) (option_to_list new) g k (visits_listed old e)
-      ∙ sym (cut_listed new)
+  pub cut_stays : (new : Docs) (from to : Option Tree) (g : RootGrown new from to)
+      → RootKeeps view new from to g → IsLoaded view from
+      → cut view holdings from ≡ cut view holdings to
+  cut_stays new from to g k e =
+      cut_listed from
+      ∙ root_lines new (option_to_list from) (option_to_list to) g k
+      (visits_listed is_loaded from e)
+      ∙ sym (cut_listed to)

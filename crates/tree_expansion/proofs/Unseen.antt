@@ -1,101 +1,132 @@
--- Pending nodes whose volumes aren't known are visited wherever they can be seen.
-use Rattle.std.specs.Prelude.{Option, Some, None, is_none, option_to_list}
-use Rattle.std.proofs.Common.{ℕ, ◌≡◌, Bool, true, false, ◌&&◌, List, refl, ap}
-use Rattle.std.specs.List.{list_all, flat_map}
+-- Where each subtree that children wait for out of sight leaves a node, no child is dropped.
+use Rattle.std.specs.Prelude.{if◌then◌else◌, Some, None, option_to_list, filter_map}
+use Rattle.std.proofs.Common.{ℕ, ◌≡◌, Bool, true, false, not, ◌&&◌, List, [], ◌∷◌, refl, sym, ◌∙◌, ap}
+use Rattle.std.proofs.lemmas.List.Folds.{list_all-append}
+use Rattle.std.specs.List.{list_all, flat_map, cons_option}
 use Rattle.tile_types.specs.declared.key.Key.{Key}
-use Rattle.volumes.specs.declared.volume.Volume.{Volume}
 use Rattle.error_test.specs.Views.{ViewParts}
 use Rattle.source_port.specs.Library.{Library}
 use Rattle.doc_store.specs.Docs.{Docs}
-use Rattle.expanded_tree.specs.Facts.{Facts, culls, is_known}
-use Rattle.expanded_tree.specs.Tree.{Tree, Trees, pending, no_trees, more_trees, list_of}
-use Rattle.cut_core.specs.Cut.{Holdings, cut}
-use Rattle.cut_core.specs.Visits.{visited_nodes}
+use Rattle.expanded_tree.specs.Facts.{Facts, culls}
+use Rattle.expanded_tree.specs.Tree.{Tree, tile, pending, list_of, children_of}
+use Rattle.cut_core.specs.Cut.{Holdings, wants, cut}
+use Rattle.cut_core.specs.Visits.{visited_nodes, visits}
 use Rattle.cut_core.specs.Laws.{IsLoaded}
 use Rattle.cut_core.proofs.Bools.{and_left, and_right}
 use Rattle.tree_expansion.specs.Expansion.{expand}
-use Rattle.tree_expansion.specs.Growth.{Grown, same_tile, read, AllGrown, none_grown, more_grown, dropped, RootGrown}
-use Rattle.tree_expansion.specs.Seen.{KeepsChildren, KeepsAll, KeepsBelow}
-use Rattle.tree_expansion.specs.Whole.{AgreesWith, full}
-use Rattle.tree_expansion.proofs.Waits.{all_pending, all_pending_in, all_root_pending, expanded_is_unknown}
+use Rattle.tree_expansion.specs.Growth.{Grown, same_tile, read, AllGrown, none_grown, more_grown, dropped, RootGrown, leaves_none}
+use Rattle.tree_expansion.specs.Seen.{KeepsChildren, KeepsAll, KeepsBelow, culled_key, culled_below, culled_waits, LeaveNodes}
+use Rattle.tree_expansion.specs.Whole.{AgreesWith, full, whole_docs}
 use Rattle.tree_expansion.proofs.Agreeing.{grows_into_full}
-use Rattle.tree_expansion.proofs.Seeing.{are_loaded, cut_stays, first_loaded, loaded_below, rest_loaded, unvisited, visits_listed}
+use Rattle.tree_expansion.proofs.Seeing.{is_loaded, cut_stays, holds_here, holds_below, holds_first, holds_rest, unvisited, visits_listed}
 
-abbrev no_volume : Facts → Key → Bool
-no_volume facts key = is_none facts.volume
+-- where none of the lists has a key that fails, none fails in each of them
+all_in_each : {A B : Type 0} (p : B → Bool) (f : A → List B) (xs : List A)
+    → list_all p (flat_map f xs) ≡ true → list_all (λ x. list_all p (f x)) xs ≡ true
+all_in_each p f [] e = refl
+all_in_each p f (x ∷ xs) e =
+    let both : (list_all p (f x) && list_all p (flat_map f xs)) ≡ true =
+    sym (list_all-append p (f x) (flat_map f xs)) ∙ e in
+    ap (λ b. b && list_all (λ y. list_all p (f y)) xs) (and_left _ _ both)
+    ∙ all_in_each p f xs (and_right (list_all p (f x)) _ both)
 
-unknown_listed : (ts : Trees) → all_pending_in no_volume ts ≡ true
-    → list_all (all_pending no_volume) (list_of ts) ≡ true
-unknown_listed no_trees e = refl
-unknown_listed (more_trees t ts) e =
-    elim (all_pending no_volume t) as (λ b. (b && all_pending_in no_volume ts) ≡ true
-    → (b && list_all (all_pending no_volume) (list_of ts)) ≡ true) [
-      | true ↦ λ h. unknown_listed ts h
-      | false ↦ λ h. cc
-    ] e
+module _ (view : ViewParts) (holdings : Holdings) (new : Docs) where
+  abbrev stays_there : Key → Bool
+  stays_there key = not (leaves_none new key)
 
-volume_known : (test : Volume → Bool) (o : Option Volume) → is_none o ≡ true
-    → is_known test o ≡ false
-volume_known test None e = refl
-volume_known test (Some volume) e = cc
+  -- the keys that these nodes wait for out of sight leave nodes
+  abbrev leave_nodes : List Tree → Bool
+  leave_nodes ts = list_all stays_there (filter_map (culled_key view) ts)
 
-never_culled : (view : ViewParts) (facts : Facts) → is_none facts.volume ≡ true
-    → culls view facts ≡ false
-unfolding culls
-never_culled view facts e = volume_known _ facts.volume e
+  -- and so do those of the children
+  abbrev keeps_below_it : Tree → Bool
+  keeps_below_it t = list_all stays_there (culled_below view t)
 
-module _ (view : ViewParts) (holdings : Holdings) where
+  rest_leave : (t : Tree) (ts : List Tree) → leave_nodes (t ∷ ts) ≡ true → leave_nodes ts ≡ true
+  rest_leave t ts e =
+      elim (culled_key view t) as (λ o.
+      list_all stays_there (cons_option o (filter_map (culled_key view) ts)) ≡ true
+      → leave_nodes ts ≡ true) [
+        | None ↦ λ h. h
+        | Some key ↦ λ h. and_right (stays_there key) _ h
+      ] e
+
+  first_leaves : (name : List ℕ) (facts : Facts) (key : Key) (ts : List Tree)
+      → culls view facts ≡ true → leave_nodes (pending name facts key ∷ ts) ≡ true
+      → stays_there key ≡ true
+  first_leaves name facts key ts c e =
+      elim (culls view facts) as (λ b. b ≡ true
+      → list_all stays_there
+      (cons_option (if b then Some key else None) (filter_map (culled_key view) ts)) ≡ true
+      → stays_there key ≡ true) [
+        | true ↦ λ h g. and_left (stays_there key) _ g
+        | false ↦ λ h g. cc
+      ] c e
+
+  children_leave : (t : Tree) → wants view t ≡ true → keeps_below_it t ≡ true
+      → leave_nodes (children_of t) ≡ true
+  children_leave t w e =
+      elim (wants view t) as (λ b. b ≡ true
+      → list_all stays_there
+      (if b then filter_map (culled_key view) (children_of t) else []) ≡ true
+      → leave_nodes (children_of t) ≡ true) [ true ↦ λ h g. g | false ↦ λ h g. cc ] w e
+
   mutual
-    keeps : (t u : Tree) (g : Grown t u) → all_pending no_volume t ≡ true
-        → are_loaded (visited_nodes view t) ≡ true → KeepsChildren view t u g
-    keeps t u (same_tile parts ts us g) n e = λ c w.
-        keeps_all (list_of ts) (list_of us) g (unknown_listed ts n)
-        (loaded_below view holdings parts ts c w e)
-    keeps t u (read name facts key v s) n e = tt
+    keeps : (t u : Tree) (g : Grown new t u) → list_all is_loaded (visited_nodes view t) ≡ true
+        → list_all keeps_below_it (visited_nodes view t) ≡ true → KeepsChildren view new t u g
+    keeps t u (same_tile parts ts us g) e k = λ c w.
+        keeps_all (list_of ts) (list_of us) g (holds_below view holdings is_loaded parts ts c w e)
+        (holds_below view holdings keeps_below_it parts ts c w k)
+        (children_leave (tile parts ts) w
+        (holds_here view holdings keeps_below_it parts ts c w k))
+    keeps t u (read name facts key v found s) e k = tt
 
-    keeps_all : (ts us : List Tree) (g : AllGrown ts us)
-        → list_all (all_pending no_volume) ts ≡ true
-        → are_loaded (flat_map (visited_nodes view) ts) ≡ true → KeepsAll view ts us g
-    keeps_all ts us none_grown n e = tt
-    keeps_all ts us (more_grown t u ts' us' g gs) n e = (
-      keeps t u g (and_left (all_pending no_volume t) _ n) (first_loaded view holdings t ts' e),
-      keeps_all ts' us' gs (and_right (all_pending no_volume t) _ n)
-          (rest_loaded view holdings t ts' e),
+    keeps_all : (ts us : List Tree) (g : AllGrown new ts us)
+        → list_all is_loaded (flat_map (visited_nodes view) ts) ≡ true
+        → list_all keeps_below_it (flat_map (visited_nodes view) ts) ≡ true
+        → leave_nodes ts ≡ true → KeepsAll view new ts us g
+    keeps_all ts us none_grown e k h = tt
+    keeps_all ts us (more_grown t u ts' us' g gs) e k h = (
+      keeps t u g (holds_first view holdings is_loaded t ts' e)
+          (holds_first view holdings keeps_below_it t ts' k),
+      keeps_all ts' us' gs (holds_rest view holdings is_loaded t ts' e)
+          (holds_rest view holdings keeps_below_it t ts' k) (rest_leave t ts' h),
     )
-    keeps_all ts us (dropped name facts key ts' us' gs) n e =
-        let seen : culls view facts ≡ false =
-        never_culled view facts (and_left (is_none facts.volume) _ n) in
+    keeps_all ts us (dropped name facts key ts' us' none gs) e k h =
         let unseen : culls view facts ≡ true =
         unvisited view holdings name facts key
-        (first_loaded view holdings (pending name facts key) ts' e) in
+        (holds_first view holdings is_loaded (pending name facts key) ts' e) in
+        let never : false ≡ true = sym (ap not none) ∙ first_leaves name facts key ts' unseen h in
         cc
 
-  keeps_below : (ts us : List Tree) (g : AllGrown ts us)
-      → list_all (all_pending no_volume) ts ≡ true
-      → are_loaded (flat_map (visited_nodes view) ts) ≡ true → KeepsBelow view ts us g
-  keeps_below ts us none_grown n e = tt
-  keeps_below ts us (more_grown t u ts' us' g gs) n e = (
-    keeps t u g (and_left (all_pending no_volume t) _ n) (first_loaded view holdings t ts' e),
-    keeps_below ts' us' gs (and_right (all_pending no_volume t) _ n)
-        (rest_loaded view holdings t ts' e),
+  keeps_below : (ts us : List Tree) (g : AllGrown new ts us)
+      → list_all is_loaded (flat_map (visited_nodes view) ts) ≡ true
+      → list_all keeps_below_it (flat_map (visited_nodes view) ts) ≡ true
+      → KeepsBelow view new ts us g
+  keeps_below ts us none_grown e k = tt
+  keeps_below ts us (more_grown t u ts' us' g gs) e k = (
+    keeps t u g (holds_first view holdings is_loaded t ts' e)
+        (holds_first view holdings keeps_below_it t ts' k),
+    keeps_below ts' us' gs (holds_rest view holdings is_loaded t ts' e)
+        (holds_rest view holdings keeps_below_it t ts' k),
   )
-  keeps_below ts us (dropped name facts key ts' us' gs) n e =
-      keeps_below ts' us' gs (and_right (is_none facts.volume) _ n)
-      (rest_loaded view holdings (pending name facts key) ts' e)
+  keeps_below ts us (dropped name facts key ts' us' none gs) e k =
+      keeps_below ts' us' gs (holds_rest view holdings is_loaded (pending name facts key) ts' e)
+      (holds_rest view holdings keeps_below_it (pending name facts key) ts' k)
 
-  unknown_root : (root : Option Tree) → all_root_pending no_volume root ≡ true
-      → list_all (all_pending no_volume) (option_to_list root) ≡ true
-  unknown_root None e = refl
-  unknown_root (Some t) e = ap (λ b. b && true) e
-
-  -- where the visited documents are loaded, the cut is the library's
-  pub cut_is_full : (library : Library) (docs : Docs) → AgreesWith library docs → (root : List ℕ)
-      → IsLoaded view (expand docs root)
-      → cut view holdings (expand docs root) ≡ cut view holdings (full library root)
-  cut_is_full library docs a root e =
-      let g : RootGrown (expand docs root) (full library root) =
-      grows_into_full library docs a root in
-      cut_stays view holdings (expand docs root) (full library root) g
-      (keeps_below (option_to_list (expand docs root)) (option_to_list (full library root)) g
-      (unknown_root (expand docs root) (expanded_is_unknown docs root))
-      (visits_listed view holdings (expand docs root) e)) e
+-- where the visited documents are loaded, the cut is the library's
+pub cut_is_full : (view : ViewParts) (holdings : Holdings) (library : Library) (docs : Docs)
+    → AgreesWith library docs → (root : List ℕ) → IsLoaded view (expand docs root)
+    → LeaveNodes (whole_docs library) (culled_waits view (expand docs root))
+    → cut view holdings (expand docs root) ≡ cut view holdings (full library root)
+cut_is_full view holdings library docs a root e k =
+    let new : Docs = whole_docs library in
+    let g : RootGrown new (expand docs root) (full library root) =
+    grows_into_full library docs a root in
+    cut_stays view holdings new (expand docs root) (full library root) g
+    (keeps_below view holdings new (option_to_list (expand docs root))
+    (option_to_list (full library root)) g
+    (visits_listed view holdings is_loaded (expand docs root) e)
+    (visits_listed view holdings (keeps_below_it view holdings new) (expand docs root)
+    (all_in_each (λ key. not (leaves_none new key)) (culled_below view)
+    (visits view (expand docs root)) k))) e

@@ -6,7 +6,7 @@ use Rattle.doc_store.specs.Docs.{Docs}
 use Rattle.expanded_tree.specs.Tree.{Tree, Trees, tile, no_trees, more_trees, list_of}
 use Rattle.tree_expansion.specs.Expansion.{expand}
 use Rattle.tree_expansion.specs.Growth.{Grown, same_tile, read, AllGrown, none_grown, more_grown, dropped, RootGrown}
-use Rattle.tree_expansion.specs.Whole.{AgreesWith, IsWhole, all_keys, all_keys_in, all_root_keys, full}
+use Rattle.tree_expansion.specs.Whole.{AgreesWith, IsWhole, all_keys, all_keys_in, all_root_keys, full, whole_docs}
 use Rattle.tree_expansion.proofs.Agreeing.{grows_into_full}
 
 and_left : (a b : Bool) → (a && b) ≡ true → a ≡ true
@@ -39,20 +39,21 @@ same_trees (more_trees t ts) (more_trees u us) e =
     let rest : ts ≡ us = same_trees ts us cc in
     cc
 
-mutual
-  stays : (t u : Tree) → Grown t u → all_keys never t ≡ true → t ≡ u
-  stays t u (same_tile parts ts ts' g) e =
-      ap (tile parts) (same_trees ts ts' (all_stay (list_of ts) (list_of ts') g (listed ts e)))
-  stays t u (read name facts key v s) e = cc
+module _ (new : Docs) where
+  mutual
+    stays : (t u : Tree) → Grown new t u → all_keys never t ≡ true → t ≡ u
+    stays t u (same_tile parts ts ts' g) e =
+        ap (tile parts) (same_trees ts ts' (all_stay (list_of ts) (list_of ts') g (listed ts e)))
+    stays t u (read name facts key v found s) e = cc
 
-  all_stay : (ts us : List Tree) → AllGrown ts us → all_never ts ≡ true → ts ≡ us
-  all_stay ts us none_grown e = refl
-  all_stay ts us (more_grown t t' rest rest' g gs) e =
-      let first : t ≡ t' = stays t t' g (and_left (all_keys never t) (all_never rest) e) in
-      let others : rest ≡ rest' =
-      all_stay rest rest' gs (and_right (all_keys never t) (all_never rest) e) in
-      cc
-  all_stay ts us (dropped name facts key rest rest' gs) e = cc
+    all_stay : (ts us : List Tree) → AllGrown new ts us → all_never ts ≡ true → ts ≡ us
+    all_stay ts us none_grown e = refl
+    all_stay ts us (more_grown t t' rest rest' g gs) e =
+        let first : t ≡ t' = stays t t' g (and_left (all_keys never t) (all_never rest) e) in
+        let others : rest ≡ rest' =
+        all_stay rest rest' gs (and_right (all_keys never t) (all_never rest) e) in
+        cc
+    all_stay ts us (dropped name facts key rest rest' why gs) e = cc
 
 same_option : (old new : Option Tree) → option_to_list old ≡ option_to_list new → old ≡ new
 same_option None None e = refl
@@ -65,12 +66,13 @@ all_of : (old : Option Tree) → all_root_keys never old ≡ true
 all_of None e = refl
 all_of (Some t) e = ap (λ b. b && true) e
 
-root_stays : (old new : Option Tree) → RootGrown old new → all_root_keys never old ≡ true
-    → old ≡ new
-root_stays old new g e =
-    same_option old new (all_stay (option_to_list old) (option_to_list new) g (all_of old e))
+root_stays : (new : Docs) (from to : Option Tree) → RootGrown new from to
+    → all_root_keys never from ≡ true → from ≡ to
+root_stays new from to g e =
+    same_option from to (all_stay new (option_to_list from) (option_to_list to) g (all_of from e))
 
 pub whole_is_full : (library : Library) (docs : Docs) → AgreesWith library docs → (root : List ℕ)
     → IsWhole (expand docs root) → expand docs root ≡ full library root
 whole_is_full library docs a root w =
-    root_stays (expand docs root) (full library root) (grows_into_full library docs a root) w
+    root_stays (whole_docs library) (expand docs root) (full library root)
+    (grows_into_full library docs a root) w

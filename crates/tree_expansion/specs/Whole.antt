@@ -1,6 +1,9 @@
 -- The tree of all documents of a library.
 use Rattle.std.specs.Prelude.{ℕ, ◌≡◌, nat_le, if◌then◌else◌, Bool, true, false, ◌&&◌, is_none, Option, Some, None, List, length, IsTrue}
 use Rattle.tile_types.specs.declared.key.Key.{Key}
+use Rattle.tile_types.specs.declared.key.Kind.{Kind}
+use Rattle.tile_types.specs.declared.key.Kind.TheVariants.{Content, Tileset, Subtree}
+use Rattle.subtree_binary.specs.Counts.{level_limit}
 use Rattle.source_port.specs.Library.{Library, bytes_at}
 use Rattle.doc_store.specs.Docs.{Docs}
 use Rattle.doc_store.specs.declared.limits.TheConstants.{DOCUMENT_LIMIT}
@@ -46,6 +49,16 @@ abbrev mutual
 abbrev pub all_root_keys : (Key → Bool) → Option Tree → Bool
 all_root_keys test None = true
 all_root_keys test (Some t) = all_keys test t
+
+-- a tileset, or a subtree whose levels are within the limits
+abbrev pub is_document_kind : Kind → Bool
+is_document_kind Content = false
+is_document_kind Tileset = true
+is_document_kind (Subtree octree levels contents) =
+    nat_le 1 levels && nat_le levels (level_limit octree)
+
+abbrev pub is_document : Key → Bool
+is_document key = is_document_kind key.kind
 
 -- no node waits for a document
 abbrev pub IsWhole : Option Tree → Type 0

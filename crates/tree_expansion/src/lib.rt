@@ -1,5 +1,6 @@
 //! The expanded tree: what the documents at hand stand for together (OGC 22-025r4, "External
-//! tilesets"), and what loading changes in it. Definitions, and the laws on them.
+//! tilesets" and "Implicit Tiling"), and what loading changes in it. Definitions, and the laws on
+//! them.
 #![tactic(auto)]
 
 pub mod laws;

@@ -4,8 +4,8 @@ use Rattle.tree_expansion.proofs.laws.cut_is_the_librarys.Goals as goal
 
 pub returns : goal.returns
 returns c = record {
-  cut = λ library docs agrees root view loaded holdings.
-      cut_is_full view holdings library docs agrees root loaded;
-  ideal = λ library docs agrees root view loaded holdings.
-      cut_is_full view (with_all holdings) library docs agrees root loaded;
+  cut = λ library docs agrees root view loaded tiles holdings.
+      cut_is_full view holdings library docs agrees root loaded tiles;
+  ideal = λ library docs agrees root view loaded tiles holdings.
+      cut_is_full view (with_all holdings) library docs agrees root loaded tiles;
 }
