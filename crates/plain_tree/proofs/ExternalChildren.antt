@@ -13,9 +13,11 @@ use Rattle.tree_expansion.specs.Expansion.{Holder, child_name, external_of, exte
 use Rattle.plain_tree.specs.declared.error.PlainError.{PlainError}
 use Rattle.plain_tree.specs.declared.node.Handed.{Handed}
 use Rattle.plain_tree.specs.declared.node_list.NodeList.{NodeList}
-use Rattle.plain_tree.specs.Nodes.{IsSoundList, map_in, node_trees}
+use Rattle.plain_tree.specs.Places.{map_in}
+use Rattle.plain_tree.specs.Nodes.{IsSoundList, node_trees}
 use Rattle.plain_tree.specs.Growth.{CanTake, Grows, Refuses, external_trees, handed_holder, handed_name, parent_name}
-use Rattle.plain_tree.proofs.Growing.{IsFront-length, grows_left, grows_length, grows_map, grows_none, grows_then}
+use Rattle.plain_tree.proofs.Fronts.{IsFront-length}
+use Rattle.plain_tree.proofs.Growing.{grows_left, grows_length, grows_map, grows_none, grows_then}
 use Rattle.plain_tree.proofs.NodeTrees.{name_below}
 use Rattle.plain_tree.proofs.Refusals.{refuses_more}
 
@@ -65,7 +67,7 @@ content_at xs i h = slice_get-get_or xs i [] h
 -- ---- the loop
 
 abbrev error_of : NodeList → Handed → WrittenParts → ℕ
-error_of list handed own = moved_error own.error (map_in list.transforms.items handed.transform)
+error_of list handed own = moved_error own.error (map_in list.tables.transforms.items handed.transform)
 
 abbrev holder_in : NodeList → Handed → WrittenParts → Holder
 holder_in list handed own = handed_holder list handed (error_of list handed own)
@@ -150,8 +152,8 @@ module _ (store : Stored) (limit : Option ℕ) (old now : NodeList) (handed : Ha
         omega (
           arith,
           can.transform,
-          IsFront-length old.transforms.items now.transforms.items
-              w.grows.transforms,
+          IsFront-length old.tables.transforms.items now.tables.transforms.items
+              w.grows.tables.transforms,
         );
   }
 
@@ -159,8 +161,8 @@ module _ (store : Stored) (limit : Option ℕ) (old now : NodeList) (handed : Ha
       (address : List ℕ) (at : slice_get own.contents place ≡ Some address)
       (outer : is_external address ≡ true)
       (error : ℕ) (error_is : error ≡ moved_error own.error
-      (map_in now.transforms.items handed.transform)) where
-    map_now : map_in now.transforms.items handed.transform ≡ map_in old.transforms.items
+      (map_in now.tables.transforms.items handed.transform)) where
+    map_now : map_in now.tables.transforms.items handed.transform ≡ map_in old.tables.transforms.items
         handed.transform
     map_now = grows_map store limit old now w.done w.grows handed.transform can.transform
 
@@ -177,7 +179,7 @@ module _ (store : Stored) (limit : Option ℕ) (old now : NodeList) (handed : Ha
     holder_now =
         ap (λ m. record { transform = m; error = error; refine = handed.refine }) map_now
         ∙ ap (λ (e : ℕ). record {
-          transform = map_in old.transforms.items handed.transform;
+          transform = map_in old.tables.transforms.items handed.transform;
           error = e;
           refine = handed.refine;
         })

@@ -1,47 +1,48 @@
 -- What further nodes add.
-use Rattle.std.proofs.Common.{ℕ, ◌⊎◌, inl, inr, ◌≡◌, ◌+◌, ◌<◌, ◌≤◌, Option, Some, List, [], ◌∷◌, ◌++◌, length, refl, sym, ◌∙◌, ap, subst, arith, append_assoc, length-append, append-nil}
+use Rattle.std.proofs.Common.{ℕ, ◌⊎◌, inl, inr, ◌≡◌, ◌+◌, ◌<◌, ◌≤◌, Option, Some, None, option_to_list, List, [], ◌∷◌, ◌++◌, length, refl, sym, ◌∙◌, ap, subst, arith, append_assoc, length-append, append-nil}
 use Rattle.std.specs.Prelude.{unwrap_or}
 use Rattle.std.specs.List.{slice_get}
-use Rattle.fixed_geometry.specs.Maps.{Map, after}
+use Rattle.std.specs.Option.{option_and_then}
+use Rattle.fixed_geometry.specs.Maps.{after}
 use Rattle.volumes.specs.Limits.{error_limit}
 use Rattle.tileset_schema.specs.Parts.{WrittenParts}
-use Rattle.tileset_schema.specs.Tiles.{WrittenTile, written}
+use Rattle.tileset_schema.specs.Implicit.{ImplicitParts}
+use Rattle.tileset_schema.specs.Tiles.{WrittenTile, WrittenTiles, written}
+use Rattle.implicit_walk.specs.declared.place.Place.{Place}
+use Rattle.doc_store.specs.Docs.{Docs}
 use Rattle.doc_store.specs.Store.{Stored, docs}
 use Rattle.expanded_tree.specs.Tree.{Tree, pending}
-use Rattle.tree_expansion.specs.Expansion.{Holder, Below, waiting_facts, written_tree, tilesets}
+use Rattle.tree_expansion.specs.Expansion.{Holder, Below, RootTile, holder_of, implicit_tree, root_tile, waiting_facts, written_tree, tilesets}
 use Rattle.plain_tree.specs.declared.node.Handed.{Handed}
-use Rattle.plain_tree.specs.declared.node.NodeSource.{NodeSource}
-use Rattle.plain_tree.specs.declared.node.NodeSource.TheVariants.{Tile, Pending}
+use Rattle.plain_tree.specs.declared.node.NodeSource.TheVariants.{Tile}
 use Rattle.plain_tree.specs.declared.node.PlainNode.{PlainNode}
 use Rattle.plain_tree.specs.declared.node.Waiting.{Waiting}
 use Rattle.plain_tree.specs.declared.node_list.NodeList.{NodeList}
-use Rattle.plain_tree.specs.Plain.{tree_in}
-use Rattle.plain_tree.specs.Tiles.{IsTileAt, tile_at, row_of}
-use Rattle.plain_tree.specs.Nodes.{AreErrors, IsSound, IsSoundList, IsThere, holder_by, map_in, name_by, node_tree, node_trees, pending_node, source_tree, tile_node, tile_under, trees_behind}
-use Rattle.plain_tree.specs.Growth.{AddsPending, AddsTile, CanTake, Grows, IsFront, IsWithin, handed_holder, handed_name}
+use Rattle.plain_tree.specs.declared.place_entry.PlaceEntry.{PlaceEntry}
+use Rattle.plain_tree.specs.declared.tables.Tables.{Tables}
+use Rattle.plain_tree.specs.Plain.{no_tree, tree_in}
+use Rattle.plain_tree.specs.Tiles.{IsTileAt, address_in, part_of, tile_at, row_of}
+use Rattle.plain_tree.specs.Places.{IsTop, map_in, place_tree}
+use Rattle.plain_tree.specs.Entries.{IsEntry, state_waits}
+use Rattle.plain_tree.specs.Nodes.{IsSound, IsSoundList, IsThere, holder_by, name_by, node_tree, node_trees, pending_node, placed_node, source_tree, tile_node, tile_under, trees_behind}
+use Rattle.plain_tree.specs.Fronts.{Continues}
+use Rattle.plain_tree.specs.Growth.{AddsPending, AddsPlace, AddsTile, CanTake, Grows, IsWithin, handed_holder, handed_name, written_at}
 use Rattle.plain_tree.specs.Waits.{top_waits}
 use Rattle.plain_tree.proofs.Waits.{tops_wait-append}
 use Rattle.plain_tree.proofs.Elements.{one_more, slice_get-last}
-use Rattle.plain_tree.proofs.Maps.{IsFront-same, map_left}
-use Rattle.plain_tree.proofs.NodeTrees.{length-trees_behind, one_tree, tree_left, trees_stay}
+use Rattle.plain_tree.proofs.Fronts.{Continues-same, Continues-then, IsFront-length, IsFront-more, more_places, more_transforms, more_waiting}
+use Rattle.plain_tree.proofs.Maps.{transform_stays}
+use Rattle.plain_tree.proofs.Places.{placed_stays, tree_stays}
+use Rattle.plain_tree.proofs.NodeTrees.{length-trees_behind, one_tree, there_stays, tree_left, trees_stay}
 
 pub length-node_trees : (store : Stored) (list : NodeList)
     → length (node_trees store list) ≡ length list.nodes.items
 length-node_trees store list =
     omega (
       arith,
-      length-trees_behind store list.waiting.items list.transforms.items []
+      length-trees_behind store list.tables []
           list.nodes.items,
     )
-
-pub IsFront-then : {A : Type 0} (xs ys zs : List A) → IsFront xs ys → IsFront ys zs → IsFront xs zs
-IsFront-then xs ys zs f g = record {
-  behind = f.behind ++ g.behind;
-  whole = g.whole ∙ ap (λ us. us ++ g.behind) f.whole ∙ append_assoc xs f.behind g.behind;
-}
-
-pub IsFront-length : {A : Type 0} (xs ys : List A) → IsFront xs ys → length xs ≤ length ys
-IsFront-length xs ys f = omega (arith, ap length f.whole, length-append xs f.behind)
 
 pub grows_none : (store : Stored) (limit : Option ℕ) (list : NodeList) → IsSoundList store list
     → Grows store limit list list []
@@ -49,7 +50,7 @@ grows_none store limit list sound = record {
   trees = sym (append-nil (node_trees store list));
   sound = sound;
   within = λ h. h;
-  transforms = IsFront-same list.transforms.items;
+  tables = Continues-same list.tables;
   waits = omega arith;
   bounds = refl;
 }
@@ -60,7 +61,7 @@ grows_then store limit a b c ts us f g = record {
   trees = g.trees ∙ ap (λ xs. xs ++ us) f.trees ∙ append_assoc (node_trees store a) ts us;
   sound = g.sound;
   within = λ h. g.within (f.within h);
-  transforms = IsFront-then _ _ _ f.transforms g.transforms;
+  tables = Continues-then _ _ _ f.tables g.tables;
   waits = omega (arith, f.waits, g.waits, tops_wait-append ts us);
   bounds = g.bounds ∙ f.bounds;
 }
@@ -86,101 +87,104 @@ grows_left store limit a b ts g i h =
     ∙ tree_left (node_trees store a) ts i (omega (arith, h, length-node_trees store a))
 
 pub grows_map : (store : Stored) (limit : Option ℕ) (a b : NodeList) (ts : List Tree)
-    → Grows store limit a b ts → (i : ℕ) → i < length a.transforms.items
-    → map_in b.transforms.items i ≡ map_in a.transforms.items i
-grows_map store limit a b ts g i h =
-    ap (λ ms. map_in ms i) g.transforms.whole
-    ∙ map_left a.transforms.items g.transforms.behind i h
+    → Grows store limit a b ts → (i : ℕ) → i < length a.tables.transforms.items
+    → map_in b.tables.transforms.items i ≡ map_in a.tables.transforms.items i
+grows_map store limit a b ts g i h = transform_stays a.tables b.tables g.tables i h
+
+-- what the parent hands down can still be taken
+pub can_still : (store : Stored) (limit : Option ℕ) (a b : NodeList) (ts : List Tree)
+    (handed : Handed) → Grows store limit a b ts → CanTake a handed → 0 < length a.nodes.items
+    → CanTake b handed
+can_still store limit a b ts handed g can some = record {
+  parent = λ h. omega (arith, can.parent some, grows_length store limit a b ts g);
+  transform =
+      omega (
+        arith,
+        can.transform,
+        IsFront-length a.tables.transforms.items b.tables.transforms.items
+            g.tables.transforms,
+      );
+}
 
 -- ---- one node
 
-more_sound : (store : Stored) (waiting maps waiting' maps' place : ℕ) (n : PlainNode)
-    → waiting ≤ waiting' → maps ≤ maps' → IsSound store waiting maps place n
-    → IsSound store waiting' maps' place n
-more_sound store waiting maps waiting' maps' place n h k s = record {
+more_sound : (store : Stored) (old new : Tables) (place : ℕ) (n : PlainNode)
+    → Continues old new → IsSound store old place n → IsSound store new place n
+more_sound store old new place n c s = record {
   below = s.below;
-  transform = omega (arith, s.transform, k);
-  there = there n.source s.there;
+  transform =
+      omega (
+        arith,
+        s.transform,
+        IsFront-length old.transforms.items new.transforms.items
+            c.transforms,
+      );
+  there = there_stays store old new c n.source s.there;
 }
-  where
-    there : (s : NodeSource) → IsThere store waiting s → IsThere store waiting' s
-    there (Tile d t) at = at
-    there (Pending w) at = omega (arith, at, h)
 
 pub grows_one : (store : Stored) (limit : Option ℕ) (old new : NodeList) (n : PlainNode) (t : Tree)
-    (waiting : List Waiting) (maps : List Map)
     → IsSoundList store old
     → new.nodes.items ≡ old.nodes.items ++ n ∷ []
-    → new.waiting.items ≡ old.waiting.items ++ waiting
-    → new.transforms.items ≡ old.transforms.items ++ maps
+    → Continues old.tables new.tables
     → new.bounds.items ≡ old.bounds.items
-    → AreErrors new.waiting.items
     → IsWithin limit (length old.nodes.items + 1)
-    → length waiting ≡ top_waits t
-    → IsSound store (length new.waiting.items) (length new.transforms.items)
-    (length old.nodes.items) n
-    → node_tree store new.waiting.items new.transforms.items (node_trees store old)
-    (length old.nodes.items) n ≡ t
+    → length new.tables.waiting.items ≡ length old.tables.waiting.items + top_waits t
+    → IsSound store new.tables (length old.nodes.items) n
+    → node_tree store new.tables (node_trees store old) (length old.nodes.items) n ≡ t
     → Grows store limit old new (t ∷ [])
-grows_one store limit old new n t waiting maps sound nodes more_waiting more_maps bounds errors
-    within count here is = record {
-      trees = ap (trees_behind store new.waiting.items new.transforms.items []) nodes
-          ∙ one_tree store new.waiting.items new.transforms.items old.nodes.items n
-          ∙ ap (λ (ts : List Tree). ts ++ node_tree store new.waiting.items new.transforms.items ts
-          (length ts) n ∷ []) stay
-          ∙ ap (λ k. node_trees store old ++ node_tree store new.waiting.items new.transforms.items
-          (node_trees store old) k n ∷ []) (length-node_trees store old)
-          ∙ ap (λ u. node_trees store old ++ u ∷ []) is;
-      sound =
-          record {
-            errors = errors;
-            nodes =
-                λ i m e. by_place i m
-                (one_more old.nodes.items n i m (ap (λ ns. slice_get ns i) (sym nodes) ∙ e));
-          };
-      within =
-          λ h. subst (IsWithin limit)
-          (sym (ap length nodes ∙ length-append old.nodes.items (n ∷ []))) within;
-      transforms = record { behind = maps; whole = more_maps };
-      waits = omega (arith, ap length more_waiting, length-append old.waiting.items waiting, count);
-      bounds = bounds;
-    }
+grows_one store limit old new n t sound nodes more bounds within count here is = record {
+  trees = ap (trees_behind store new.tables []) nodes
+      ∙ one_tree store new.tables old.nodes.items n
+      ∙ ap (λ (ts : List Tree). ts ++ node_tree store new.tables ts (length ts) n ∷ []) stay
+      ∙ ap (λ k. node_trees store old ++ node_tree store new.tables (node_trees store old) k n ∷ [])
+      (length-node_trees store old)
+      ∙ ap (λ u. node_trees store old ++ u ∷ []) is;
+  sound = record {
+    nodes = λ i m e. by_place i m
+        (one_more old.nodes.items n i m (ap (λ ns. slice_get ns i) (sym nodes) ∙ e));
+  };
+  within = λ h. subst (IsWithin limit)
+      (sym (ap length nodes ∙ length-append old.nodes.items (n ∷ []))) within;
+  tables = more;
+  waits = omega (arith, count);
+  bounds = bounds;
+}
   where
-    stay : trees_behind store new.waiting.items new.transforms.items [] old.nodes.items
-        ≡ node_trees store old
-    stay = ap (λ ws. trees_behind store ws new.transforms.items [] old.nodes.items) more_waiting
-        ∙ ap (λ ms. trees_behind store (old.waiting.items ++ waiting) ms [] old.nodes.items)
-        more_maps
-        ∙ trees_stay store old.waiting.items old.transforms.items waiting maps old.nodes.items
-        sound.nodes
+    stay : trees_behind store new.tables [] old.nodes.items ≡ node_trees store old
+    stay = trees_stay store old.tables new.tables more old.nodes.items sound.nodes
 
     by_place : (i : ℕ) (m : PlainNode)
         → ((slice_get old.nodes.items i ≡ Some m) ⊎ ((i ≡ length old.nodes.items) × (m ≡ n)))
-        → IsSound store (length new.waiting.items) (length new.transforms.items) i m
+        → IsSound store new.tables i m
     by_place i m (inl e) =
-        more_sound store (length old.waiting.items) (length old.transforms.items)
-        (length new.waiting.items) (length new.transforms.items) i m
-        (omega (arith, ap length more_waiting, length-append old.waiting.items waiting))
-        (omega (arith, ap length more_maps, length-append old.transforms.items maps))
-        (sound.nodes i m e)
+        more_sound store old.tables new.tables i m more (sound.nodes i m e)
     by_place i m (inr e) =
-        subst (λ k. IsSound store (length new.waiting.items) (length new.transforms.items) k
-        m) (sym e.0)
-        (subst (IsSound store (length new.waiting.items) (length new.transforms.items)
-        (length old.nodes.items)) (sym e.1) here)
+        subst (λ k. IsSound store new.tables k m) (sym e.0)
+        (subst (IsSound store new.tables (length old.nodes.items)) (sym e.1) here)
 
 -- ---- a node for a tile
 
-written_is : (below : Below) (name : List ℕ) (above : Holder) (t : WrittenTile)
-    → tile_under below name (holder_by (after above.transform (row_of t).parts.transform)
-    (unwrap_or (row_of t).parts.refine above.refine) t) t
-    ≡ written_tree below name above t
-written_is below name above (written own children) = refl
+abbrev written_by : Docs → Below → List ℕ → List ℕ → Holder → WrittenParts → WrittenTiles
+    → Option ImplicitParts → Option Tree
+written_by docs below base name holder own children implicit =
+    elim implicit [
+      | Some part ↦ implicit_tree docs below (root_tile base name holder own part)
+      | None ↦ Some (tile_under docs below base name holder (written own children))
+    ]
+
+written_is : (docs : Docs) (below : Below) (base name : List ℕ) (above : Holder) (t : WrittenTile)
+    → part_of t ≡ None
+    → written_tree docs below base name above t
+    ≡ Some (tile_under docs below base name
+    (holder_by (after above.transform (row_of t).parts.transform)
+    (unwrap_or (row_of t).parts.refine above.refine) t) t)
+written_is docs below base name above (written own children) e =
+    ap (written_by docs below base name (holder_of above own) own children) e
 
 -- a tile waits for nothing
-top_written : (below : Below) (name : List ℕ) (holder : Holder) (t : WrittenTile)
-    → 0 ≡ top_waits (written_tree below name holder t)
-top_written below name holder (written own children) = refl
+top_under : (docs : Docs) (below : Below) (base name : List ℕ) (holder : Holder) (t : WrittenTile)
+    → 0 ≡ top_waits (tile_under docs below base name holder t)
+top_under docs below base name holder (written own children) = refl
 
 -- a parent above the node
 sound_below : (handed : Handed) (list : NodeList) (n : PlainNode) → CanTake list handed
@@ -188,68 +192,64 @@ sound_below : (handed : Handed) (list : NodeList) (n : PlainNode) → CanTake li
 sound_below handed list n can e some = omega (arith, e, can.parent some)
 
 pub grows_tile : (store : Stored) (limit : Option ℕ) (old new : NodeList) (handed : Handed)
-    (document number : ℕ) (own : WrittenParts) (t : WrittenTile) (holder : Holder)
+    (document number : ℕ) (own : WrittenParts) (t : WrittenTile)
     → IsSoundList store old → CanTake old handed
     → IsTileAt store document number → tile_at store document number ≡ Some t
-    → own ≡ (row_of t).parts
+    → own ≡ (row_of t).parts → part_of t ≡ None
     → AddsTile handed (Tile document number) own old new
     → IsWithin limit (length old.nodes.items + 1)
-    → holder.transform ≡ map_in old.transforms.items handed.transform
-    → holder.refine ≡ handed.refine
-    → Grows store limit old new
-    (written_tree (tilesets (docs store) handed.levels) (handed_name store old handed)
-    holder t ∷ [])
-grows_tile store limit old new handed document number own t holder sound can there at own_is adds
-    within transform refine =
+    → Grows store limit old new (option_to_list (written_at store old handed document number))
+grows_tile store limit old new handed document number own t sound can there at own_is plain adds
+    within =
     let n = adds.node in
     let name = handed_name store old handed in
     let below = tilesets (docs store) handed.levels in
-    let computed = after holder.transform (row_of t).parts.transform in
-    let refined = unwrap_or (row_of t).parts.refine holder.refine in
-    let computed_is : map_in new.transforms.items n.transform ≡ computed =
+    let base = address_in store document in
+    let above = handed_holder old handed 0 in
+    let computed = after above.transform (row_of t).parts.transform in
+    let refined = unwrap_or (row_of t).parts.refine above.refine in
+    let tree = tile_under (docs store) below base name (holder_by computed refined t) t in
+    let computed_is : map_in new.tables.transforms.items n.transform ≡ computed =
     adds.transform.transform
-    ∙ ap (λ (o : WrittenParts). after (map_in old.transforms.items handed.transform) o.transform)
-    own_is
-    ∙ ap (λ m. after m (row_of t).parts.transform) (sym transform) in
+    ∙ ap (λ (o : WrittenParts). after above.transform o.transform) own_is in
     let refined_is : n.refine ≡ refined =
-    adds.refine ∙ ap (λ (o : WrittenParts). unwrap_or o.refine handed.refine) own_is
-    ∙ ap (unwrap_or (row_of t).parts.refine) (sym refine) in
+    adds.refine ∙ ap (λ (o : WrittenParts). unwrap_or o.refine handed.refine) own_is in
     let name_is : name_by (node_trees store old) (length old.nodes.items) n.parent n.number ≡ name =
     ap (λ p. name_by (node_trees store old) (length old.nodes.items) p n.number)
     adds.takes_over.parent
     ∙ ap (name_by (node_trees store old) (length old.nodes.items) handed.parent)
     adds.takes_over.number in
-    let is : node_tree store new.waiting.items new.transforms.items (node_trees store old)
-    (length old.nodes.items) n ≡ written_tree below name holder t =
-    ap (source_tree store new.waiting.items new.transforms.items
+    let is : node_tree store new.tables (node_trees store old) (length old.nodes.items) n ≡ tree =
+    ap (source_tree store new.tables
     (name_by (node_trees store old) (length old.nodes.items) n.parent n.number) n)
     adds.source_is
-    ∙ ap (λ m. tile_node (tilesets (docs store) n.levels) m
-    (map_in new.transforms.items n.transform) n.refine (tile_at store document number)) name_is
-    ∙ ap (λ l. tile_node (tilesets (docs store) l) name (map_in new.transforms.items n.transform)
-    n.refine (tile_at store document number)) adds.takes_over.levels
-    ∙ ap (λ m. tile_node below name m n.refine (tile_at store document number)) computed_is
-    ∙ ap (λ r. tile_node below name computed r (tile_at store document number)) refined_is
-    ∙ ap (tile_node below name computed refined) at
-    ∙ written_is below name holder t in
-    grows_one store limit old new n (written_tree below name holder t) []
-    adds.transform.front.behind sound
-    adds.nodes (adds.waiting ∙ sym (append-nil old.waiting.items)) adds.transform.front.whole
-    adds.bounds
-    (subst AreErrors (sym adds.waiting) sound.errors) within (top_written below name holder t)
+    ∙ ap (λ m. tile_node (docs store) (tilesets (docs store) n.levels) base m
+    (map_in new.tables.transforms.items n.transform) n.refine (tile_at store document number))
+    name_is
+    ∙ ap (λ l. tile_node (docs store) (tilesets (docs store) l) base name
+    (map_in new.tables.transforms.items n.transform) n.refine (tile_at store document number))
+    adds.takes_over.levels
+    ∙ ap (λ m. tile_node (docs store) below base name m n.refine (tile_at store document number))
+    computed_is
+    ∙ ap (λ r. tile_node (docs store) below base name computed r (tile_at store document number))
+    refined_is
+    ∙ ap (tile_node (docs store) below base name computed refined) at in
+    let written_is_some : written_at store old handed document number ≡ Some tree =
+    ap (option_and_then (written_tree (docs store) below base name above)) at
+    ∙ written_is (docs store) below base name above t plain in
+    subst (λ o. Grows store limit old new (option_to_list o)) (sym written_is_some)
+    (grows_one store limit old new n tree sound adds.nodes
+    (more_transforms old.tables new.tables adds.tables adds.transform.front) adds.bounds within
+    (omega (
+      arith,
+      ap (λ (tables : Tables). length tables.waiting.items) adds.tables,
+      top_under (docs store) below base name (holder_by computed refined t) t,
+    ))
     (record {
       below = sound_below handed old n can adds.takes_over.parent;
       transform = adds.transform.there;
-      there = subst (IsThere store (length new.waiting.items)) (sym adds.source_is) there;
-    }) is
-
-more_errors : (ws : List Waiting) (w : Waiting) → AreErrors ws → w.error ≤ error_limit
-    → AreErrors (ws ++ w ∷ [])
-more_errors ws w all small i v e = by_place (one_more ws w i v e)
-  where
-    by_place : ((slice_get ws i ≡ Some v) ⊎ ((i ≡ length ws) × (v ≡ w))) → v.error ≤ error_limit
-    by_place (inl h) = all i v h
-    by_place (inr h) = subst (λ (u : Waiting). u.error ≤ error_limit) (sym h.1) small
+      there = subst (IsThere store new.tables) (sym adds.source_is) there;
+    }) is)
 
 -- a node for a tileset that isn't loaded
 pub grows_pending : (store : Stored) (limit : Option ℕ) (old new : NodeList) (handed : Handed)
@@ -263,38 +263,102 @@ pub grows_pending : (store : Stored) (limit : Option ℕ) (old new : NodeList) (
 grows_pending store limit old new handed w sound can adds small within =
     let n = adds.node in
     let name = handed_name store old handed in
-    let map = map_in old.transforms.items handed.transform in
+    let map = map_in old.tables.transforms.items handed.transform in
     let name_is : name_by (node_trees store old) (length old.nodes.items) n.parent n.number ≡ name =
     ap (λ p. name_by (node_trees store old) (length old.nodes.items) p n.number)
     adds.takes_over.parent
     ∙ ap (name_by (node_trees store old) (length old.nodes.items) handed.parent)
     adds.takes_over.number in
-    let map_is : map_in new.transforms.items n.transform ≡ map =
-    ap (λ ms. map_in ms n.transform) adds.transforms ∙ ap (map_in old.transforms.items)
+    let same_maps : new.tables.transforms.items ≡ old.tables.transforms.items =
+    ap (λ (tables : Tables). tables.transforms.items) adds.tables in
+    let map_is : map_in new.tables.transforms.items n.transform ≡ map =
+    ap (λ ms. map_in ms n.transform) same_maps ∙ ap (map_in old.tables.transforms.items)
     adds.transform in
-    let found : slice_get new.waiting.items (length old.waiting.items) ≡ Some w =
-    ap (λ ws. slice_get ws (length old.waiting.items)) adds.waiting
-    ∙ slice_get-last old.waiting.items w in
-    let is : node_tree store new.waiting.items new.transforms.items (node_trees store old)
-    (length old.nodes.items) n ≡ pending name (waiting_facts (handed_holder old handed w.error))
-    w.key =
-    ap (source_tree store new.waiting.items new.transforms.items
+    let found : slice_get new.tables.waiting.items (length old.tables.waiting.items) ≡ Some w =
+    ap (λ ws. slice_get ws (length old.tables.waiting.items)) adds.waiting
+    ∙ slice_get-last old.tables.waiting.items w in
+    let is : node_tree store new.tables (node_trees store old) (length old.nodes.items) n
+    ≡ pending name (waiting_facts (handed_holder old handed w.error)) w.key =
+    ap (source_tree store new.tables
     (name_by (node_trees store old) (length old.nodes.items) n.parent n.number) n) adds.source
-    ∙ ap (λ m. pending_node m (map_in new.transforms.items n.transform) n.refine
-    (slice_get new.waiting.items (length old.waiting.items))) name_is
+    ∙ ap (λ m. pending_node m (map_in new.tables.transforms.items n.transform) n.refine
+    (slice_get new.tables.waiting.items (length old.tables.waiting.items))) name_is
     ∙ ap (λ m. pending_node name m n.refine
-    (slice_get new.waiting.items (length old.waiting.items))) map_is
-    ∙ ap (λ r. pending_node name map r (slice_get new.waiting.items (length old.waiting.items)))
-    adds.refine
+    (slice_get new.tables.waiting.items (length old.tables.waiting.items))) map_is
+    ∙ ap (λ r. pending_node name map r
+    (slice_get new.tables.waiting.items (length old.tables.waiting.items))) adds.refine
     ∙ ap (pending_node name map handed.refine) found in
     grows_one store limit old new n (pending name (waiting_facts (handed_holder old handed w.error))
-    w.key) (w ∷ []) [] sound
-    adds.nodes adds.waiting (adds.transforms ∙ sym (append-nil old.transforms.items)) adds.bounds
-    (subst AreErrors (sym adds.waiting) (more_errors old.waiting.items w sound.errors small)) within
-    (omega arith)
+    w.key) sound adds.nodes (more_waiting old.tables new.tables adds.tables
+    (IsFront-more old.tables.waiting.items new.tables.waiting.items (w ∷ []) adds.waiting))
+    adds.bounds within
+    (omega (arith, ap length adds.waiting, length-append old.tables.waiting.items (w ∷ [])))
     (record {
       below = sound_below handed old n can adds.takes_over.parent;
-      transform = omega (arith, can.transform, ap length adds.transforms, adds.transform);
-      there = subst (IsThere store (length new.waiting.items)) (sym adds.source)
-          (omega (arith, ap length adds.waiting, length-append old.waiting.items (w ∷ [])));
+      transform = omega (arith, can.transform, ap length same_maps, adds.transform);
+      there = subst (IsThere store new.tables) (sym adds.source)
+          (record { entry = w; at = found; error = small });
+    }) is
+
+-- ---- a node for a place
+
+-- the tables have grown by an entry of a place, and then its node is added
+pub grows_place : (store : Stored) (limit : Option ℕ) (old mid new : NodeList) (handed : Handed)
+    (number : ℕ) (at : Place) (top : RootTile) (entry : PlaceEntry) (t : Tree)
+    → IsSoundList store old → CanTake old handed
+    → mid.nodes.items ≡ old.nodes.items → mid.bounds.items ≡ old.bounds.items
+    → IsTop store old.tables number top
+    → IsEntry store old.tables mid.tables number at entry
+    → AddsPlace handed entry mid new → IsWithin limit (length mid.nodes.items + 1)
+    → place_tree store old.tables handed.levels number at ≡ Some t
+    → top_waits t ≡ state_waits entry.state
+    → Grows store limit old new (t ∷ [])
+grows_place store limit old mid new handed number at top entry t sound can nodes bounds is_top made
+    adds within tree_is waits =
+    let n = adds.node in
+    let kept = more_places mid.tables new.tables adds.tables
+    (IsFront-more mid.tables.places.items new.tables.places.items (entry ∷ []) adds.places) in
+    let more = Continues-then old.tables mid.tables new.tables made.tables kept in
+    let found : slice_get new.tables.places.items (length mid.tables.places.items) ≡ Some entry =
+    ap (λ ps. slice_get ps (length mid.tables.places.items)) adds.places
+    ∙ slice_get-last mid.tables.places.items entry in
+    let is : node_tree store new.tables (node_trees store old) (length old.nodes.items) n ≡ t =
+    ap (source_tree store new.tables
+    (name_by (node_trees store old) (length old.nodes.items) n.parent n.number) n) adds.source
+    ∙ ap (placed_node store new.tables n.levels) found
+    ∙ ap (λ l. unwrap_or (place_tree store new.tables l entry.top entry.at) no_tree)
+    adds.takes_over.levels
+    ∙ ap (λ k. unwrap_or (place_tree store new.tables handed.levels k entry.at) no_tree)
+    made.number_is
+    ∙ ap (λ p. unwrap_or (place_tree store new.tables handed.levels number p) no_tree) made.place
+    ∙ ap (λ o. unwrap_or o no_tree)
+    (tree_stays store old.tables new.tables more handed.levels number top at is_top ∙ tree_is) in
+    grows_one store limit old new n t sound
+    (adds.nodes ∙ ap (λ ns. ns ++ n ∷ []) nodes) more (adds.bounds ∙ bounds)
+    (subst (λ (ns : List PlainNode). IsWithin limit (length ns + 1)) nodes within)
+    (omega (
+      arith,
+      ap (λ (tables : Tables). length tables.waiting.items) adds.tables,
+      made.waits,
+      waits,
+    ))
+    (record {
+      below = sound_below handed old n can adds.takes_over.parent;
+      transform =
+          omega (
+            arith,
+            can.transform,
+            adds.transform,
+            IsFront-length old.tables.transforms.items new.tables.transforms.items
+                more.transforms,
+          );
+      there = subst (IsThere store new.tables) (sym adds.source) (record {
+        entry = entry;
+        at = found;
+        has = record {
+          top = made.has.top;
+          placed = placed_stays store mid.tables new.tables kept entry made.has.top
+              made.has.placed;
+        };
+      });
     }) is

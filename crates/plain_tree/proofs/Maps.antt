@@ -1,14 +1,14 @@
 -- Lists of computed transforms.
-use Rattle.std.proofs.Common.{ℕ, ◌≡◌, ◌+◌, ◌<◌, ◌∷◌, ◌++◌, List, [], length, get_or, refl, sym, ap, ◌∙◌, arith, length-append, append-nil}
+use Rattle.std.proofs.Common.{ℕ, ◌≡◌, ◌+◌, ◌<◌, ◌∷◌, ◌++◌, List, [], length, get_or, refl, sym, ap, ◌∙◌, arith, length-append}
 use Rattle.std.proofs.lemmas.List.{get_or_append_left, get_or-append-add}
 use Rattle.std.proofs.lemmas.Option.{slice_get_read, get_or_from_slice_get}
 use Rattle.fixed_geometry.specs.Maps.{Map, identity, after, IsBounded}
 use Rattle.fixed_geometry.proofs.IdentityLaw.{after-identity_right}
-use Rattle.plain_tree.specs.Nodes.{map_in}
-use Rattle.plain_tree.specs.Growth.{IsBelow, IsFront}
-
-pub IsFront-same : {A : Type 0} (xs : List A) → IsFront xs xs
-IsFront-same xs = record { behind = []; whole = sym (append-nil xs) }
+use Rattle.plain_tree.specs.declared.tables.Tables.{Tables}
+use Rattle.plain_tree.specs.Places.{map_in, transform_in}
+use Rattle.plain_tree.specs.Fronts.{Continues}
+use Rattle.plain_tree.specs.Growth.{IsBelow}
+use Rattle.plain_tree.proofs.Fronts.{IsFront-same}
 
 pub map_left : (ms ns : List Map) (i : ℕ) → i < length ms → map_in (ms ++ ns) i ≡ map_in ms i
 map_left ms ns i h = get_or_append_left ms ns identity i h
@@ -41,3 +41,10 @@ more_below ms ns above own number at is = record {
   where
     end : (n : ℕ) → n ≡ n + 0
     end n = omega arith
+
+-- while tables grow
+pub transform_stays : (old new : Tables) → Continues old new → (number : ℕ)
+    → number < length old.transforms.items → transform_in new number ≡ transform_in old number
+transform_stays old new c number h =
+    ap (λ ms. map_in ms number) c.transforms.whole
+    ∙ map_left old.transforms.items c.transforms.behind number h

@@ -1,19 +1,23 @@
 -- The trees of nodes in a list.
 use Rattle.std.proofs.Common.{ℕ, zero, suc, ◌≡◌, ◌+◌, ◌<◌, Some, List, [], ◌∷◌, ◌++◌, length, refl, sym, ◌∙◌, ap, subst, arith, length-append}
 use Rattle.std.specs.List.{slice_get}
+use Rattle.std.specs.Option.{unwrap_or}
 use Rattle.std.proofs.lemmas.List.{get_or_append_left, get_or-append-add}
-use Rattle.fixed_geometry.specs.Maps.{Map}
 use Rattle.doc_store.specs.Store.{Stored, docs}
 use Rattle.expanded_tree.specs.Tree.{Tree, name_of}
 use Rattle.tree_expansion.specs.Expansion.{child_name, tilesets}
 use Rattle.plain_tree.specs.declared.node.NodeSource.{NodeSource}
-use Rattle.plain_tree.specs.declared.node.NodeSource.TheVariants.{Tile, Pending}
+use Rattle.plain_tree.specs.declared.node.NodeSource.TheVariants.{Tile, Pending, Implicit}
 use Rattle.plain_tree.specs.declared.node.PlainNode.{PlainNode}
-use Rattle.plain_tree.specs.declared.node.Waiting.{Waiting}
+use Rattle.plain_tree.specs.declared.tables.Tables.{Tables}
 use Rattle.plain_tree.specs.Plain.{no_tree, tree_in}
-use Rattle.plain_tree.specs.Tiles.{tile_at}
-use Rattle.plain_tree.specs.Nodes.{AreSoundIn, IsThere, map_in, name_by, node_tree, pending_node, source_tree, tile_node, trees_behind}
-use Rattle.plain_tree.proofs.Maps.{map_left}
+use Rattle.plain_tree.specs.Tiles.{address_in, tile_at}
+use Rattle.plain_tree.specs.Places.{transform_in}
+use Rattle.plain_tree.specs.Nodes.{AreSoundIn, IsPending, IsThere, name_by, node_tree, pending_node, placed_node, source_tree, tile_node, trees_behind}
+use Rattle.plain_tree.specs.Fronts.{Continues}
+use Rattle.plain_tree.proofs.Fronts.{front_get}
+use Rattle.plain_tree.proofs.Maps.{transform_stays}
+use Rattle.plain_tree.proofs.Places.{place_stays, tree_stays}
 
 pub tree_left : (ts us : List Tree) (i : ℕ) → i < length ts → tree_in (ts ++ us) i ≡ tree_in ts i
 tree_left ts us i h = get_or_append_left ts us no_tree i h
@@ -38,53 +42,53 @@ pub name_below : (ts : List Tree) (place parent number : ℕ) → 0 < place
 name_below ts zero parent number h = absurd (omega arith)
 name_below ts (suc place) parent number h = refl
 
-module _ (store : Stored) (waiting : List Waiting) (maps : List Map) where
+module _ (store : Stored) (tables : Tables) where
   pub length-trees_behind : (before : List Tree) (ns : List PlainNode)
-      → length (trees_behind store waiting maps before ns) ≡ length before + length ns
+      → length (trees_behind store tables before ns) ≡ length before + length ns
   unfolding trees_behind
   length-trees_behind before [] = omega arith
   length-trees_behind before (n ∷ ns) =
-      let t = node_tree store waiting maps before (length before) n in
+      let t = node_tree store tables before (length before) n in
       omega (arith, length-trees_behind (before ++ t ∷ []) ns, length-append before (t ∷ []))
 
   behind-append : (before : List Tree) (ns ms : List PlainNode)
-      → trees_behind store waiting maps before (ns ++ ms)
-      ≡ trees_behind store waiting maps (trees_behind store waiting maps before ns) ms
+      → trees_behind store tables before (ns ++ ms)
+      ≡ trees_behind store tables (trees_behind store tables before ns) ms
   unfolding trees_behind
   behind-append before [] ms = refl
   behind-append before (n ∷ ns) ms =
-      behind-append (before ++ node_tree store waiting maps before (length before) n ∷ []) ns ms
+      behind-append (before ++ node_tree store tables before (length before) n ∷ []) ns ms
 
   -- one more node
   pub one_tree : (ns : List PlainNode) (n : PlainNode)
-      → trees_behind store waiting maps [] (ns ++ n ∷ [])
-      ≡ trees_behind store waiting maps [] ns
-      ++ node_tree store waiting maps (trees_behind store waiting maps [] ns)
-      (length (trees_behind store waiting maps [] ns)) n ∷ []
+      → trees_behind store tables [] (ns ++ n ∷ [])
+      ≡ trees_behind store tables [] ns
+      ++ node_tree store tables (trees_behind store tables [] ns)
+      (length (trees_behind store tables [] ns)) n ∷ []
   unfolding trees_behind
   one_tree ns n = behind-append [] ns (n ∷ [])
 
   behind_left : (before : List Tree) (ns : List PlainNode) (i : ℕ) → i < length before
-      → tree_in (trees_behind store waiting maps before ns) i ≡ tree_in before i
+      → tree_in (trees_behind store tables before ns) i ≡ tree_in before i
   unfolding trees_behind
   behind_left before [] i h = refl
   behind_left before (n ∷ ns) i h =
-      let t = node_tree store waiting maps before (length before) n in
+      let t = node_tree store tables before (length before) n in
       behind_left (before ++ t ∷ []) ns i (omega (arith, length-append before (t ∷ [])))
       ∙ tree_left before (t ∷ []) i h
 
   -- the tree of a node, behind others
   later_is : (before : List Tree) (ns : List PlainNode) (i : ℕ) (n : PlainNode) (place : ℕ)
       → place ≡ length before + i → slice_get ns i ≡ Some n → (0 < place → n.parent < place)
-      → tree_in (trees_behind store waiting maps before ns) place
-      ≡ node_tree store waiting maps (trees_behind store waiting maps before ns) place n
+      → tree_in (trees_behind store tables before ns) place
+      ≡ node_tree store tables (trees_behind store tables before ns) place n
   unfolding trees_behind
   later_is before [] i n place at e below = cc
   later_is before (m ∷ ns) zero n place at e below =
       let same : m ≡ n = cc in
       let here : place ≡ length before = omega (arith, at) in
-      let t = node_tree store waiting maps before (length before) m in
-      let all = trees_behind store waiting maps (before ++ t ∷ []) ns in
+      let t = node_tree store tables before (length before) m in
+      let all = trees_behind store tables (before ++ t ∷ []) ns in
       let long = length-append before (t ∷ []) in
       let stays : (j : ℕ) → j < length before → tree_in all j ≡ tree_in before j =
       λ j h. behind_left (before ++ t ∷ []) ns j (omega (arith, long, h))
@@ -92,67 +96,72 @@ module _ (store : Stored) (waiting : List Waiting) (maps : List Map) where
       ap (tree_in all) here
       ∙ behind_left (before ++ t ∷ []) ns (length before) (omega (arith, long))
       ∙ tree_last before t
-      ∙ ap (λ k. node_tree store waiting maps before k m) (sym here)
-      ∙ ap (λ k. node_tree store waiting maps before place k) same
-      ∙ ap (λ name. source_tree store waiting maps name n n.source)
+      ∙ ap (λ k. node_tree store tables before k m) (sym here)
+      ∙ ap (λ k. node_tree store tables before place k) same
+      ∙ ap (λ name. source_tree store tables name n n.source)
       (same_name before all place n.parent n.number
       (λ some. sym (stays n.parent (subst (λ k. n.parent < k) here (below some)))))
   later_is before (m ∷ ns) (suc i) n place at e below =
-      let t = node_tree store waiting maps before (length before) m in
+      let t = node_tree store tables before (length before) m in
       later_is (before ++ t ∷ []) ns i n place (omega (arith, at, length-append before (t ∷ []))) e
       below
 
   pub tree_at_node : (ns : List PlainNode) (place : ℕ) (n : PlainNode)
       → slice_get ns place ≡ Some n → (0 < place → n.parent < place)
-      → tree_in (trees_behind store waiting maps [] ns) place
-      ≡ node_tree store waiting maps (trees_behind store waiting maps [] ns) place n
+      → tree_in (trees_behind store tables [] ns) place
+      ≡ node_tree store tables (trees_behind store tables [] ns) place n
   tree_at_node ns place n e below = later_is [] ns place n place (omega arith) e below
 
--- ---- further transforms and pending tilesets beside the nodes
+-- ---- further entries of the tables
 
-pending_stays : (waiting more : List Waiting) (name : List ℕ) (m : Map) (refine : _) (i : ℕ)
-    → i < length waiting
-    → pending_node name m refine (slice_get (waiting ++ more) i)
-    ≡ pending_node name m refine (slice_get waiting i)
-pending_stays waiting more name m refine i h =
-    ap (pending_node name m refine) (same waiting i h)
-  where
-    same : (ws : List Waiting) (j : ℕ) → j < length ws → slice_get (ws ++ more) j ≡ slice_get ws j
-    same [] j k = absurd (omega arith)
-    same (w ∷ ws) zero k = refl
-    same (w ∷ ws) (suc j) k = same ws j (omega arith)
+module _ (store : Stored) (old new : Tables) (c : Continues old new) where
+  waiting_stays : (number : ℕ) → IsPending old number
+      → slice_get new.waiting.items number ≡ slice_get old.waiting.items number
+  waiting_stays number p =
+      front_get old.waiting.items new.waiting.items c.waiting number p.entry p.at ∙ sym p.at
 
-module _ (store : Stored) (waiting : List Waiting) (maps : List Map) (waiting' : List Waiting)
-    (maps' : List Map) where
-  source_stays : (name : List ℕ) (n : PlainNode) (s : NodeSource) → n.transform < length maps
-      → IsThere store (length waiting) s
-      → source_tree store (waiting ++ waiting') (maps ++ maps') name n s
-      ≡ source_tree store waiting maps name n s
+  source_stays : (name : List ℕ) (n : PlainNode) (s : NodeSource)
+      → n.transform < length old.transforms.items → IsThere store old s
+      → source_tree store new name n s ≡ source_tree store old name n s
   source_stays name n (Tile d t) h there =
-      ap (λ m. tile_node (tilesets (docs store) n.levels) name m n.refine (tile_at store d t))
-      (map_left maps maps' n.transform h)
+      ap (λ m. tile_node (docs store) (tilesets (docs store) n.levels) (address_in store d) name m
+      n.refine (tile_at store d t)) (transform_stays old new c n.transform h)
   source_stays name n (Pending w) h there =
-      ap (λ m. pending_node name m n.refine (slice_get (waiting ++ waiting') w))
-      (map_left maps maps' n.transform h)
-      ∙ pending_stays waiting waiting' name (map_in maps n.transform) n.refine w there
+      ap (λ m. pending_node name m n.refine (slice_get new.waiting.items w))
+      (transform_stays old new c n.transform h)
+      ∙ ap (pending_node name (transform_in old n.transform) n.refine) (waiting_stays w there)
+  source_stays name n (Implicit p) h there =
+      ap (placed_node store new n.levels)
+      (front_get old.places.items new.places.items c.places p there.entry there.at)
+      ∙ ap (λ o. unwrap_or o no_tree)
+      (tree_stays store old new c n.levels there.entry.top there.has.top there.entry.at
+      there.has.placed.is_top)
+      ∙ ap (placed_node store old n.levels) (sym there.at)
+
+  pub there_stays : (s : NodeSource) → IsThere store old s → IsThere store new s
+  there_stays (Tile d t) there = there
+  there_stays (Pending w) there = record {
+    entry = there.entry;
+    at = front_get old.waiting.items new.waiting.items c.waiting w there.entry there.at;
+    error = there.error;
+  }
+  there_stays (Implicit p) there = place_stays store old new c p there
 
   all_stay : (before : List Tree) (ns : List PlainNode)
       → ((i : ℕ) (n : PlainNode) → slice_get ns i ≡ Some n
-      → (n.transform < length maps) × IsThere store (length waiting) n.source)
-      → trees_behind store (waiting ++ waiting') (maps ++ maps') before ns
-      ≡ trees_behind store waiting maps before ns
+      → (n.transform < length old.transforms.items) × IsThere store old n.source)
+      → trees_behind store new before ns ≡ trees_behind store old before ns
   unfolding trees_behind
   all_stay before [] sound = refl
   all_stay before (n ∷ ns) sound =
       let first = sound 0 n refl in
       let name = name_by before (length before) n.parent n.number in
-      ap (λ t. trees_behind store (waiting ++ waiting') (maps ++ maps') (before ++ t ∷ []) ns)
+      ap (λ t. trees_behind store new (before ++ t ∷ []) ns)
       (source_stays name n n.source first.0 first.1)
-      ∙ all_stay (before ++ node_tree store waiting maps before (length before) n ∷ []) ns
+      ∙ all_stay (before ++ node_tree store old before (length before) n ∷ []) ns
       (λ i m e. sound (suc i) m e)
 
-  pub trees_stay : (ns : List PlainNode) → AreSoundIn store (length waiting) (length maps) ns
-      → trees_behind store (waiting ++ waiting') (maps ++ maps') [] ns
-      ≡ trees_behind store waiting maps [] ns
+  pub trees_stay : (ns : List PlainNode) → AreSoundIn store old ns
+      → trees_behind store new [] ns ≡ trees_behind store old [] ns
   trees_stay ns sound =
       all_stay [] ns (λ i n e. let s = sound i n e in (s.transform, s.there))

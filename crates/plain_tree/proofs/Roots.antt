@@ -13,7 +13,8 @@ use Rattle.plain_tree.specs.declared.node.PlainNode.{PlainNode}
 use Rattle.plain_tree.specs.declared.node_list.NodeList.{NodeList}
 use Rattle.plain_tree.specs.Plain.{tree_in}
 use Rattle.plain_tree.specs.Trees.{first_address, size_of, stored_tree}
-use Rattle.plain_tree.specs.Nodes.{AreErrors, AreSoundIn, IsSoundList, map_in, name_by, node_trees, trees_behind}
+use Rattle.plain_tree.specs.Places.{map_in}
+use Rattle.plain_tree.specs.Nodes.{AreSoundIn, IsSoundList, name_by, node_trees, trees_behind}
 use Rattle.plain_tree.specs.Growth.{CanTake, Grows, IsEmptyList, IsGrown, IsWithin, Refuses, handed_holder, handed_name}
 use Rattle.plain_tree.specs.Listed.{IsListed}
 use Rattle.plain_tree.specs.Waits.{pending_count, top_waits, tops_wait, waits_in}
@@ -41,13 +42,11 @@ length-root (Some t) = omega (arith, size_some t)
 module _ (store : Stored) (list : NodeList) (e : IsEmptyList list) where
   pub no_trees : node_trees store list ≡ []
   unfolding trees_behind
-  no_trees = ap (λ ns. trees_behind store list.waiting.items list.transforms.items [] ns) e.nodes
+  no_trees = ap (λ ns. trees_behind store list.tables [] ns) e.nodes
 
   pub empty_sound : IsSoundList store list
   empty_sound = record {
-    errors = subst AreErrors (sym e.waiting) (λ i w at. cc);
-    nodes = subst (AreSoundIn store (length list.waiting.items) (length list.transforms.items))
-        (sym e.nodes) (λ i n at. cc);
+    nodes = subst (AreSoundIn store list.tables) (sym e.nodes) (λ i n at. cc);
   }
 
   pub empty_can : CanTake list root_handed
@@ -110,7 +109,7 @@ module _ (store : Stored) (list : NodeList) (e : IsEmptyList list) where
           g.within (subst (λ (ns : List PlainNode). IsWithin limit (length ns)) (sym e.nodes)
           (no_size limit))
 
-      new_waits : length new.waiting.items ≡ tops_wait (option_to_list o)
+      new_waits : length new.tables.waiting.items ≡ tops_wait (option_to_list o)
       new_waits = omega (arith, g.waits, ap length e.waiting)
 
       nothing_waits : (p : Option Tree) → length (option_to_list p) ≡ 0
@@ -156,7 +155,7 @@ module _ (store : Stored) (list : NodeList) (e : IsEmptyList list) where
           by_root (Some t) h = refl
 
       -- the root alone waits
-      root_waits : 0 < length new.nodes.items → length new.waiting.items
+      root_waits : 0 < length new.nodes.items → length new.tables.waiting.items
           ≡ top_waits (tree_in (node_trees store new) 0)
       root_waits some =
           new_waits ∙ by_root o (omega (arith, some, count)) ∙ ap (λ ts. top_waits (tree_in ts 0))

@@ -1,12 +1,12 @@
 -- Tiles in preorder, and the trees that they are the tiles of.
-use Rattle.std.proofs.Common.{ℕ, zero, suc, ◌≡◌, ◌+◌, ◌-◌, ◌<◌, ◌≤◌, Option, Some, None, List, [], ◌∷◌, ◌++◌, length, drop, refl, sym, ap, subst, ◌∙◌, arith, append_assoc, append-nil, length-append, length-drop}
+use Rattle.std.proofs.Common.{ℕ, zero, suc, ◌≡◌, ◌+◌, ◌-◌, ◌<◌, ◌≤◌, Option, Some, None, List, [], ◌∷◌, ◌++◌, length, drop, Bool, true, false, if◌then◌else◌, refl, sym, ap, subst, ◌∙◌, arith, append_assoc, append-nil, length-append, length-drop}
 use Rattle.std.specs.List.{slice_get}
 use Rattle.std.specs.Option.{option_and_then, option_map}
 use Rattle.std.proofs.Math.Dec.{eqb-suc-zero}
 use Rattle.tileset_schema.specs.Tiles.{WrittenTile, WrittenTiles, written, no_tiles, more_tiles, tile_count, tiles_count}
 use Rattle.tileset_schema.specs.Preorder.{Row, rows, all_rows, split_trees, with_row, trees}
-use Rattle.doc_store.specs.Docs.{Loaded, tileset_in}
-use Rattle.doc_store.specs.States.{rows_of}
+use Rattle.doc_store.specs.Docs.{Loaded, is_tileset, tileset_in}
+use Rattle.doc_store.specs.States.{rows_in, rows_of}
 use Rattle.doc_store.specs.Store.{Stored}
 use Rattle.plain_tree.proofs.Elements.{slice_get-drop}
 use Rattle.plain_tree.specs.Tiles.{StandsAt, IsDocument, IsTileAt, HasRow, document_rows, tile_among, tile_at, row_of}
@@ -228,6 +228,11 @@ is_document store document tiles e = by_loaded (slice_get store.loaded document)
     by_tree (Some root) h =
         record { root = root; whole = let same : tiles ≡ rows root = cc in same }
 
+    by_kind : (b : Bool) (l : Loaded)
+        → (if b then rows_in l.key.address l.bytes else None) ≡ Some tiles → IsDocument tiles
+    by_kind true l h = by_tree (tileset_in l.key.address l.bytes) h
+    by_kind false l h = cc
+
     by_loaded : (o : Option Loaded) → option_and_then rows_of o ≡ Some tiles → IsDocument tiles
     by_loaded None h = cc
-    by_loaded (Some l) h = by_tree (tileset_in l.key.address l.bytes) h
+    by_loaded (Some l) h = by_kind (is_tileset l.key) l h

@@ -3,17 +3,18 @@ use Rattle.std.proofs.Common.{ℕ, ◌≡◌, ◌+◌, ◌<◌, ◌≤◌, ◌^�
 use Rattle.std.specs.List.{slice_get}
 use Rattle.std.proofs.lemmas.List.Sums.{length-filter, count_by-le-length}
 use Rattle.std.proofs.lemmas.Option.{slice_get_read, slice_get_within}
-use Rattle.tile_uri.specs.Addresses.{is_external}
+use Rattle.tile_uri.specs.Addresses.{IsAddress, is_external}
 use Rattle.fixed_geometry.specs.Maps.{Map}
 use Rattle.volumes.specs.Moves.{moved_error}
 use Rattle.tile_types.specs.declared.refine.Refine.{Refine}
 use Rattle.tileset_schema.specs.Parts.{WrittenParts}
 use Rattle.tileset_schema.specs.Tiles.{WrittenTile, WrittenTiles, written, no_tiles, more_tiles, tile_count, tiles_count}
 use Rattle.tileset_schema.specs.Preorder.{Row}
+use Rattle.doc_store.specs.Docs.{Docs}
 use Rattle.doc_store.specs.Store.{Stored, docs}
 use Rattle.expanded_tree.specs.Tree.{Tree, addresses_of, children_of, name_of}
 use Rattle.expanded_tree.proofs.Trees.{list_of-from_list}
-use Rattle.tree_expansion.specs.Expansion.{Holder, Below, child_name, count_of, external_of, externals, own_of, tilesets, written_trees}
+use Rattle.tree_expansion.specs.Expansion.{Holder, Below, child_name, count_of, external_of, externals, own_of, tilesets, written_tree, written_trees}
 use Rattle.plain_tree.specs.declared.error.PlainError.{PlainError}
 use Rattle.plain_tree.specs.declared.node.Handed.{Handed}
 use Rattle.plain_tree.specs.declared.node.NodeSource.TheVariants.{Tile, Pending}
@@ -21,11 +22,12 @@ use Rattle.plain_tree.specs.declared.node.PlainNode.{PlainNode}
 use Rattle.plain_tree.specs.declared.node.Waiting.{Waiting}
 use Rattle.plain_tree.specs.declared.node_list.NodeList.{NodeList}
 use Rattle.plain_tree.specs.Plain.{tree_in}
-use Rattle.plain_tree.specs.Tiles.{IsTileAt, StandsIn, children_in, document_rows, row_of, tile_at}
-use Rattle.plain_tree.specs.Nodes.{IsSound, IsSoundList, IsThere, child_trees, holder_by, map_in, name_by, node_tree, node_trees, pending_node, source_tree, tile_node, tile_under}
+use Rattle.plain_tree.specs.Tiles.{IsTileAt, StandsIn, address_in, children_in, document_rows, row_of, tile_at}
+use Rattle.plain_tree.specs.Places.{map_in}
+use Rattle.plain_tree.specs.Nodes.{IsSound, IsSoundList, IsThere, child_trees, holder_by, name_by, node_tree, node_trees, pending_node, source_tree, tile_node, tile_under}
 use Rattle.plain_tree.specs.Windows.{HasFew}
-use Rattle.plain_tree.specs.Growth.{AddsChildren, CanTake, Grows, Refuses, external_trees, handed_holder, parent_name}
-use Rattle.plain_tree.proofs.Growing.{IsFront-length, grows_left, grows_length, grows_map, grows_none, grows_then}
+use Rattle.plain_tree.specs.Growth.{AddsChildren, CanTake, Grows, Refuses, external_trees, handed_holder, parent_name, written_below}
+use Rattle.plain_tree.proofs.Growing.{can_still, grows_left, grows_length, grows_map, grows_none, grows_then}
 use Rattle.plain_tree.proofs.NodeTrees.{tree_at_node}
 use Rattle.plain_tree.proofs.Refusals.{refuses_more}
 use Rattle.plain_tree.proofs.Rows.{is_at, read_row, row_size, row_within, stands_in}
@@ -41,35 +43,49 @@ handed_by place n number = record {
   refine = n.refine;
 }
 
-under_children : (below : Below) (name : List ℕ) (holder : Holder) (t : WrittenTile)
-    → children_of (tile_under below name holder t) ≡ child_trees below name holder t
-under_children below name holder (written own children) =
-    list_of-from_list (child_trees below name holder (written own children))
+module _ (docs : Docs) (below : Below) (base name : List ℕ) where
+  under_children : (holder : Holder) (t : WrittenTile)
+      → children_of (tile_under docs below base name holder t)
+      ≡ child_trees docs below base name holder t
+  under_children holder (written own children) =
+      list_of-from_list (child_trees docs below base name holder (written own children))
 
-under_contents : (below : Below) (name : List ℕ) (holder : Holder) (t : WrittenTile)
-    → addresses_of (tile_under below name holder t) ≡ own_of (row_of t).parts.contents
-under_contents below name holder (written own children) = refl
+  under_contents : (holder : Holder) (t : WrittenTile)
+      → addresses_of (tile_under docs below base name holder t) ≡ own_of (row_of t).parts.contents
+  under_contents holder (written own children) = refl
 
-pub under_name : (below : Below) (name : List ℕ) (holder : Holder) (t : WrittenTile)
-    → name_of (tile_under below name holder t) ≡ name
-under_name below name holder (written own children) = refl
+  pub under_name : (holder : Holder) (t : WrittenTile)
+      → name_of (tile_under docs below base name holder t) ≡ name
+  under_name holder (written own children) = refl
 
--- those that are written, and those of external tilesets
-parted : (below : Below) (name : List ℕ) (map : Map) (refine : Refine) (t : WrittenTile)
-    → child_trees below name (holder_by map refine t) t
-    ≡ written_trees below name
-    (record {
-      transform = map;
-      error = moved_error (row_of t).parts.error map;
-      refine = refine;
-    }) 0 (children_in (Some t))
-    ++ externals below name
-    (record {
-      transform = map;
-      error = moved_error (row_of t).parts.error map;
-      refine = refine;
-    }) (count_of (children_in (Some t))) (external_of (row_of t).parts.contents)
-parted below name map refine (written own children) = refl
+  -- the error of the tile tells nothing of what its children are
+  without_error : (map : Map) (error : ℕ) (refine : Refine) (number : ℕ) (ts : WrittenTiles)
+      → written_trees docs below base name
+      (record { transform = map; error = error; refine = refine }) number ts
+      ≡ written_trees docs below base name
+      (record { transform = map; error = 0; refine = refine }) number ts
+  without_error map error refine number no_tiles = refl
+  without_error map error refine number (more_tiles (written own children) ts) =
+      ap (λ us. option_to_list (written_tree docs below base (child_name name number)
+      (record { transform = map; error = 0; refine = refine }) (written own children)) ++ us)
+      (without_error map error refine (number + 1) ts)
+
+  -- those that are written, and those of external tilesets
+  parted : (map : Map) (refine : Refine) (t : WrittenTile)
+      → child_trees docs below base name (holder_by map refine t) t
+      ≡ written_trees docs below base name
+      (record { transform = map; error = 0; refine = refine }) 0 (children_in (Some t))
+      ++ externals below name
+      (record {
+        transform = map;
+        error = moved_error (row_of t).parts.error map;
+        refine = refine;
+      }) (count_of (children_in (Some t))) (external_of (row_of t).parts.contents)
+  parted map refine (written own children) =
+      ap (λ us. us ++ externals below name
+      (record { transform = map; error = moved_error own.error map; refine = refine })
+      (count_of children) (external_of own.contents))
+      (without_error map (moved_error own.error map) refine 0 children)
 
 length-externals : (below : Below) (name : List ℕ) (holder : Holder) (number : ℕ)
     (addresses : List (List ℕ))
@@ -106,12 +122,12 @@ length-external_of xs =
 module _ (store : Stored) (list : NodeList) (place : ℕ) (n : PlainNode)
     (sound : IsSoundList store list)
     (at : slice_get list.nodes.items place ≡ Some n) where
-  pub is_sound : IsSound store (length list.waiting.items) (length list.transforms.items) place n
+  pub is_sound : IsSound store list.tables place n
   is_sound = sound.nodes place n at
 
   pub tree_is : tree_in (node_trees store list) place
-      ≡ node_tree store list.waiting.items list.transforms.items (node_trees store list) place n
-  tree_is = tree_at_node store list.waiting.items list.transforms.items list.nodes.items place n at
+      ≡ node_tree store list.tables (node_trees store list) place n
+  tree_is = tree_at_node store list.tables list.nodes.items place n at
       is_sound.below
 
   -- a pending node has no child
@@ -119,13 +135,13 @@ module _ (store : Stored) (list : NodeList) (place : ℕ) (n : PlainNode)
       → children_of (tree_in (node_trees store list) place) ≡ []
   none_waiting w e =
       ap children_of
-      (tree_is ∙ ap (source_tree store list.waiting.items list.transforms.items
+      (tree_is ∙ ap (source_tree store list.tables
       (name_by (node_trees store list) place n.parent n.number) n) e)
-      ∙ no_child (slice_get list.waiting.items w)
+      ∙ no_child (slice_get list.tables.waiting.items w)
     where
       no_child : (o : Option Waiting)
           → children_of (pending_node (name_by (node_trees store list) place n.parent n.number)
-          (map_in list.transforms.items n.transform) n.refine o) ≡ []
+          (map_in list.tables.transforms.items n.transform) n.refine o) ≡ []
       no_child None = refl
       no_child (Some v) = refl
 
@@ -133,63 +149,62 @@ module _ (store : Stored) (list : NodeList) (place : ℕ) (n : PlainNode)
       → addresses_of (tree_in (node_trees store list) place) ≡ []
   nothing_waiting w e =
       ap addresses_of
-      (tree_is ∙ ap (source_tree store list.waiting.items list.transforms.items
+      (tree_is ∙ ap (source_tree store list.tables
       (name_by (node_trees store list) place n.parent n.number) n) e)
-      ∙ no_content (slice_get list.waiting.items w)
+      ∙ no_content (slice_get list.tables.waiting.items w)
     where
       no_content : (o : Option Waiting)
           → addresses_of (pending_node (name_by (node_trees store list) place n.parent n.number)
-          (map_in list.transforms.items n.transform) n.refine o) ≡ []
+          (map_in list.tables.transforms.items n.transform) n.refine o) ≡ []
       no_content None = refl
       no_content (Some v) = refl
 
   module _ (document tile : ℕ) (source : n.source ≡ Tile document tile) where
     pub there : IsTileAt store document tile
-    there = subst (IsThere store (length list.waiting.items)) source is_sound.there
+    there = subst (IsThere store list.tables) source is_sound.there
 
     pub tile_is : (t : WrittenTile) → tile_at store document tile ≡ Some t
         → tree_in (node_trees store list) place
-        ≡ tile_under (tilesets (docs store) n.levels) (name_by (node_trees store list) place
-        n.parent n.number)
-        (holder_by (map_in list.transforms.items n.transform) n.refine t) t
+        ≡ tile_under (docs store) (tilesets (docs store) n.levels) (address_in store document)
+        (name_by (node_trees store list) place n.parent n.number)
+        (holder_by (map_in list.tables.transforms.items n.transform) n.refine t) t
     tile_is t found =
         let name = name_by (node_trees store list) place n.parent n.number in
         tree_is
-        ∙ ap (source_tree store list.waiting.items list.transforms.items name n) source
-        ∙ ap (tile_node (tilesets (docs store) n.levels) name
-        (map_in list.transforms.items n.transform) n.refine) found
+        ∙ ap (source_tree store list.tables name n) source
+        ∙ ap (tile_node (docs store) (tilesets (docs store) n.levels) (address_in store document)
+        name (map_in list.tables.transforms.items n.transform) n.refine) found
 
     pub contents_are : (t : WrittenTile) → tile_at store document tile ≡ Some t
         → addresses_of (tree_in (node_trees store list) place) ≡ own_of (row_of t).parts.contents
     contents_are t found =
         ap addresses_of (tile_is t found)
-        ∙ under_contents (tilesets (docs store) n.levels) (name_by (node_trees store list) place
-        n.parent n.number)
-        (holder_by (map_in list.transforms.items n.transform) n.refine t) t
+        ∙ under_contents (docs store) (tilesets (docs store) n.levels) (address_in store document)
+        (name_by (node_trees store list) place n.parent n.number)
+        (holder_by (map_in list.tables.transforms.items n.transform) n.refine t) t
 
     -- its children
     children_are : (t : WrittenTile) → tile_at store document tile ≡ Some t
         → children_of (tree_in (node_trees store list) place)
-        ≡ written_trees (tilesets (docs store) n.levels)
-        (name_of (tree_in (node_trees store list) place))
-        (handed_holder list (handed_by place n 0)
-        (moved_error (row_of t).parts.error (map_in list.transforms.items n.transform))) 0
-        (children_in (Some t))
+        ≡ written_below store list (handed_by place n 0) document 0 (children_in (Some t))
         ++ external_trees store list (handed_by place n (count_of (children_in (Some t))))
         (row_of t).parts
     children_are t found =
         let below = tilesets (docs store) n.levels in
+        let base = address_in store document in
         let name = name_by (node_trees store list) place n.parent n.number in
-        let map = map_in list.transforms.items n.transform in
+        let map = map_in list.tables.transforms.items n.transform in
         let holder = holder_by map n.refine t in
-        let is : tree_in (node_trees store list) place ≡ tile_under below name holder t =
+        let is : tree_in (node_trees store list) place
+        ≡ tile_under (docs store) below base name holder t =
         tile_is t found in
         let named : name ≡ name_of (tree_in (node_trees store list) place) =
-        sym (ap name_of is ∙ under_name below name holder t) in
+        sym (ap name_of is ∙ under_name (docs store) below base name holder t) in
         ap children_of is
-        ∙ under_children below name holder t
-        ∙ ap (λ m. child_trees below m holder t) named
-        ∙ parted below (name_of (tree_in (node_trees store list) place)) map n.refine t
+        ∙ under_children (docs store) below base name holder t
+        ∙ ap (λ m. child_trees (docs store) below base m holder t) named
+        ∙ parted (docs store) below base (name_of (tree_in (node_trees store list) place)) map
+        n.refine t
 
 -- a tile at a place of the list, which says this of itself, and its children
 pub record Parent (store : Stored) (list : NodeList) (place : ℕ) (n : PlainNode) (document tile : ℕ)
@@ -197,12 +212,10 @@ pub record Parent (store : Stored) (list : NodeList) (place : ℕ) (n : PlainNod
   pub can : CanTake list (handed_by place n 0)
   pub some : 0 < length list.nodes.items
   pub stands : StandsIn tiles tile
+  pub address : IsAddress (address_in store document)
   pub room : count_of (children_in (tile_at store document tile)) + length own.contents < 2 ^ 32
   pub children : children_of (tree_in (node_trees store list) place)
-      ≡ written_trees (tilesets (docs store) n.levels)
-      (parent_name store list (handed_by place n 0))
-      (handed_holder list (handed_by place n 0)
-      (moved_error own.error (map_in list.transforms.items n.transform))) 0
+      ≡ written_below store list (handed_by place n 0) document 0
       (children_in (tile_at store document tile))
       ++ external_trees store list
       (handed_by place n (count_of (children_in (tile_at store document tile)))) own
@@ -237,14 +250,13 @@ parent store list place n document tile tiles row sound at source read own short
     let within = slice_get_within list.nodes.items place n at in
     let C : Option WrittenTile → WrittenParts → Type 0 =
     λ o p. children_of (tree_in (node_trees store list) place)
-    ≡ written_trees (tilesets (docs store) n.levels) (parent_name store list (handed_by place n 0))
-    (handed_holder list (handed_by place n 0)
-    (moved_error p.error (map_in list.transforms.items n.transform))) 0 (children_in o)
+    ≡ written_below store list (handed_by place n 0) document 0 (children_in o)
     ++ external_trees store list (handed_by place n (count_of (children_in o))) p in
     record {
       can = record { parent = λ h. within; transform = is.transform };
       some = omega (arith, within);
       stands = record { tree = here.tree; stands = stands };
+      address = here.address;
       room =
           omega (
             arith,
@@ -306,57 +318,48 @@ module _ (store : Stored) (limit : Option ℕ) (old mid : NodeList) (place : ℕ
   name = parent_name store old (handed_by place n 0)
 
   abbrev error : ℕ
-  error = moved_error own.error (map_in old.transforms.items n.transform)
+  error = moved_error own.error (map_in old.tables.transforms.items n.transform)
 
   abbrev written_part : List Tree
-  written_part = written_trees below name (handed_holder old (handed_by place n 0) error) 0 children
+  written_part = written_below store old (handed_by place n 0) document 0 children
 
   abbrev external_part : List Tree
   external_part = external_trees store old (handed_by place n (count_of children)) own
 
-  counted : length (children_of (tree_in (node_trees store old) place)) ≡ count_of children
+  counted : length (children_of (tree_in (node_trees store old) place)) ≡ length written_part
       + length external_part
-  counted = omega (
-    arith,
-    ap length p.children,
-    length-append written_part external_part,
-    length-written_trees below name (handed_holder old (handed_by place n 0) error) 0 children,
-  )
+  counted = omega (arith, ap length p.children, length-append written_part external_part)
+
+  few_written : length written_part ≤ count_of children
+  few_written =
+      length-written_trees (docs store) below (address_in store document) name
+      (handed_holder old (handed_by place n 0) 0) 0 children
 
   -- too many written children
   pub refused_written : (e : PlainError)
-      → Refuses limit
-      (length old.nodes.items + count_of (children_in (tile_at store document tile))) e
+      → Refuses limit (length old.nodes.items
+      + length (written_below store old (handed_by place n 0) document 0
+      (children_in (tile_at store document tile)))) e
       → Refuses limit
       (length old.nodes.items + length (children_of (tree_in (node_trees store old) place))) e
   refused_written e r =
-      refuses_more limit (length old.nodes.items + count_of children)
+      refuses_more limit (length old.nodes.items + length written_part)
       (length old.nodes.items + length (children_of (tree_in (node_trees store old) place))) e
       (omega (arith, counted)) r
 
   module _ (number : ℕ) (w : AddsChildren store limit old mid (handed_by place n 0)
-      (tile_at store document tile) number) where
+      document (tile_at store document tile) number) where
     pub sound_mid : IsSoundList store mid
-    sound_mid = (w.grows 0).sound
+    sound_mid = w.grows.sound
 
-    nodes_mid : length mid.nodes.items ≡ length old.nodes.items + count_of children
-    nodes_mid = omega (
-      arith,
-      grows_length store limit old mid written_part (w.grows error),
-      length-written_trees below name (handed_holder old (handed_by place n 0) error) 0 children,
-    )
+    nodes_mid : length mid.nodes.items ≡ length old.nodes.items + length written_part
+    nodes_mid = grows_length store limit old mid written_part w.grows
 
     pub can_mid : CanTake mid (handed_by place n number)
-    can_mid = record {
-      parent = λ h. omega (arith, p.can.parent p.some, nodes_mid);
-      transform =
-          omega (
-            arith,
-            p.can.transform,
-            IsFront-length old.transforms.items mid.transforms.items
-                (w.grows 0).transforms,
-          );
-    }
+    can_mid =
+        let still = can_still store limit old mid written_part (handed_by place n 0) w.grows p.can
+        p.some in
+        record { parent = still.parent; transform = still.transform }
 
     pub some_mid : 0 < length mid.nodes.items
     some_mid = omega (arith, p.some, nodes_mid)
@@ -374,11 +377,11 @@ module _ (store : Stored) (limit : Option ℕ) (old mid : NodeList) (place : ℕ
 
     externals_same : external_trees store mid (handed_by place n number) own ≡ external_part
     externals_same =
-        ap (λ t. made (name_of t) (map_in mid.transforms.items n.transform) number)
-        (grows_left store limit old mid written_part (w.grows error) place (p.can.parent p.some))
+        ap (λ t. made (name_of t) (map_in mid.tables.transforms.items n.transform) number)
+        (grows_left store limit old mid written_part w.grows place (p.can.parent p.some))
         ∙ ap (λ map. made name map number)
-        (grows_map store limit old mid written_part (w.grows error) n.transform p.can.transform)
-        ∙ ap (made name (map_in old.transforms.items n.transform)) w.counted
+        (grows_map store limit old mid written_part w.grows n.transform p.can.transform)
+        ∙ ap (made name (map_in old.tables.transforms.items n.transform)) w.counted
 
     pub refused_external : (e : PlainError)
         → Refuses limit
@@ -399,12 +402,13 @@ module _ (store : Stored) (limit : Option ℕ) (old mid : NodeList) (place : ℕ
         × HasFew (tree_in (node_trees store old) place)
     all_children new g = (
       subst (Grows store limit old new) (sym p.children)
-          (grows_then store limit old mid new written_part external_part (w.grows error)
+          (grows_then store limit old mid new written_part external_part w.grows
           (subst (Grows store limit mid new) externals_same g)),
       record {
         children = omega (
           arith,
           counted,
+          few_written,
           p.room,
           length-externals below name (handed_holder old (handed_by place n (count_of children))
               error) (count_of children) (external_of own.contents),

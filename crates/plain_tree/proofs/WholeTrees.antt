@@ -32,8 +32,8 @@ pub record Levels (store : Stored) (limit : Option ℕ) (old now : NodeList)
   pub counted : place + sizes (drop place (node_trees store now))
       ≡ tree_size (tree_in (node_trees store old) 0)
   pub within : IsWithin limit 1 → IsWithin limit (length now.nodes.items)
-  pub waits : length old.waiting.items ≡ top_waits (tree_in (node_trees store old) 0)
-      → length now.waiting.items + all_wait (drop place (node_trees store now))
+  pub waits : length old.tables.waiting.items ≡ top_waits (tree_in (node_trees store old) 0)
+      → length now.tables.waiting.items + all_wait (drop place (node_trees store now))
       ≡ pending_count (tree_in (node_trees store old) 0) + tops_wait
       (drop place (node_trees store now))
 
@@ -225,7 +225,7 @@ module _ (store : Stored) (limit : Option ℕ) (old now : NodeList) (place : ℕ
         → HasFew (tree_in (node_trees store now) place)
         → end ≡ length new.nodes.items
         → last.nodes.items ≡ new.nodes.items → node_trees store last ≡ node_trees store new
-        → last.waiting.items ≡ new.waiting.items
+        → last.tables.waiting.items ≡ new.tables.waiting.items
         → (IsSoundList store new → IsSoundList store last)
         → last.bounds.items ≡ new.bounds.items ++ end ∷ []
         → Levels store limit old last (place + 1)

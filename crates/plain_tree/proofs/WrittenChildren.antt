@@ -1,48 +1,57 @@
 -- The written children of a tile, one node after the other.
-use Rattle.std.proofs.Common.{ℕ, ◌≡◌, ◌+◌, ◌<◌, ◌≤◌, Option, Some, List, [], ◌∷◌, ◌++◌, length, refl, sym, ◌∙◌, ap, subst, arith, append_assoc, append-nil, length-append}
+use Rattle.std.proofs.Common.{ℕ, ◌≡◌, ◌+◌, ◌<◌, ◌≤◌, Option, Some, None, option_to_list, List, [], ◌++◌, length, refl, sym, ◌∙◌, ap, subst, arith, append_assoc, append-nil, length-append}
 use Rattle.std.specs.List.{slice_get}
+use Rattle.std.specs.Option.{option_and_then}
+use Rattle.tile_uri.specs.Addresses.{IsAddress}
 use Rattle.tileset_schema.specs.Tiles.{WrittenTile, WrittenTiles, written, no_tiles, more_tiles, tile_count, tiles_count}
 use Rattle.tileset_schema.specs.Preorder.{Row}
+use Rattle.doc_store.specs.Docs.{Docs}
 use Rattle.doc_store.specs.Store.{Stored, docs}
 use Rattle.expanded_tree.specs.Tree.{Tree, name_of}
 use Rattle.tree_expansion.specs.Expansion.{Holder, Below, child_name, count_of, tilesets, written_tree, written_trees}
 use Rattle.plain_tree.specs.declared.error.PlainError.{PlainError}
 use Rattle.plain_tree.specs.declared.node.Handed.{Handed}
-use Rattle.plain_tree.specs.declared.node.NodeSource.TheVariants.{Tile}
 use Rattle.plain_tree.specs.declared.node_list.NodeList.{NodeList}
-use Rattle.plain_tree.specs.Tiles.{IsTileAt, StandsAt, StandsIn, children_in, document_rows, row_of, tile_at}
+use Rattle.plain_tree.specs.Tiles.{HasRow, IsTileAt, StandsAt, StandsIn, address_in, children_in, document_rows, row_of, tile_at}
 use Rattle.plain_tree.specs.Nodes.{IsSoundList, node_trees}
-use Rattle.plain_tree.specs.Growth.{AddsChildren, AddsTile, CanTake, Grows, IsWithin, Refuses, handed_holder, handed_name, parent_name}
-use Rattle.plain_tree.proofs.Growing.{IsFront-length, grows_left, grows_length, grows_map, grows_none, grows_then, grows_tile}
+use Rattle.plain_tree.specs.Growth.{AddsChildren, CanTake, Grows, Refuses, handed_holder, handed_name, parent_name, written_at, written_below}
+use Rattle.plain_tree.proofs.Growing.{can_still, grows_left, grows_length, grows_map, grows_none, grows_then}
 use Rattle.plain_tree.proofs.NodeTrees.{name_below}
 use Rattle.plain_tree.proofs.Refusals.{refuses_more}
-use Rattle.plain_tree.proofs.Rows.{AllStandAt, children_stand, first_stands, is_at, rest_stands, room_stands, row_stands}
+use Rattle.plain_tree.proofs.Rows.{AllStandAt, children_stand, first_stands, is_at, read_row, rest_stands, room_stands, row_stands}
 
-pub length-written_trees : (below : Below) (name : List ℕ) (holder : Holder) (k : ℕ)
-    (ts : WrittenTiles)
-    → length (written_trees below name holder k ts) ≡ count_of ts
-length-written_trees below name holder k no_tiles = refl
-length-written_trees below name holder k (more_tiles t ts) =
-    omega (arith, length-written_trees below name holder (k + 1) ts)
-
-abbrev children_trees : Stored → NodeList → Handed → ℕ → ℕ → WrittenTiles → List Tree
-children_trees store old handed error number ts =
-    written_trees (tilesets (docs store) handed.levels) (parent_name store old handed)
-    (handed_holder old handed error) number ts
+pub length-written_trees : (docs : Docs) (below : Below) (base name : List ℕ) (holder : Holder)
+    (k : ℕ) (ts : WrittenTiles)
+    → length (written_trees docs below base name holder k ts) ≤ count_of ts
+length-written_trees docs below base name holder k no_tiles = omega arith
+length-written_trees docs below base name holder k (more_tiles t ts) =
+    omega (
+      arith,
+      one (written_tree docs below base (child_name name k) holder t),
+      length-append
+          (option_to_list (written_tree docs below base (child_name name k) holder t))
+          (written_trees docs below base name holder (k + 1) ts),
+      length-written_trees docs below base name holder (k + 1) ts,
+    )
+  where
+    one : (o : Option Tree) → length (option_to_list o) ≤ 1
+    one None = omega arith
+    one (Some t) = omega arith
 
 -- some children have their nodes, and these are left
 pub record Written (store : Stored) (limit : Option ℕ) (old now : NodeList) (handed : Handed)
-    (tiles : List Row) (t : Option WrittenTile) (next end number : ℕ) : Type 0 where
+    (tiles : List Row) (document : ℕ) (t : Option WrittenTile) (next end number : ℕ)
+    : Type 0 where
   pub left : WrittenTiles
   pub stand : AllStandAt tiles next left
   pub until : next + tiles_count left ≡ end
   pub within : end ≤ length tiles
   pub counted : number + count_of left ≡ count_of (children_in t)
   pub small : number < next
-  pub done : ℕ → List Tree
-  pub grows : (error : ℕ) → Grows store limit old now (done error)
-  pub rest : (error : ℕ) → done error ++ children_trees store old handed error number left
-      ≡ children_trees store old handed error 0 (children_in t)
+  pub done : List Tree
+  pub grows : Grows store limit old now done
+  pub rest : done ++ written_below store old handed document number left
+      ≡ written_below store old handed document 0 (children_in t)
 
 children_of_tile : (t : WrittenTile) (tiles : List Row) (tile : ℕ) → StandsAt tiles tile t
     → AllStandAt tiles (tile + 1) (children_in (Some t))
@@ -56,10 +65,10 @@ pub starts : (store : Stored) (limit : Option ℕ) (old : NodeList) (handed : Ha
     (document tile size : ℕ) (row : Row) (there : StandsIn tiles tile)
     → document_rows store document ≡ Some tiles → IsSoundList store old
     → slice_get tiles tile ≡ Some row → size ≡ row.size
-    → Written store limit old old handed tiles (tile_at store document tile) (tile + 1)
+    → Written store limit old old handed tiles document (tile_at store document tile) (tile + 1)
     (tile + size) 0
 starts store limit old handed tiles document tile size row there read sound e size_is =
-    subst (λ t. Written store limit old old handed tiles t (tile + 1) (tile + size) 0)
+    subst (λ t. Written store limit old old handed tiles document t (tile + 1) (tile + size) 0)
     (sym (is_at store document tile tiles there.tree read there.stands))
     (record {
       left = children_in (Some there.tree);
@@ -68,9 +77,9 @@ starts store limit old handed tiles document tile size row there read sound e si
       within = omega (arith, counted, room_stands tiles tile there.tree there.stands);
       counted = omega arith;
       small = omega arith;
-      done = λ error. [];
-      grows = λ error. grows_none store limit old sound;
-      rest = λ error. refl;
+      done = [];
+      grows = grows_none store limit old sound;
+      rest = refl;
     })
   where
     size_of_row : (r : Row) → Some r ≡ Some (row_of there.tree) → r.size ≡ tile_count there.tree
@@ -106,56 +115,29 @@ size_of : (t : WrittenTile) → (row_of t).size ≡ tile_count t
 size_of (written own children) = refl
 
 module _ (store : Stored) (limit : Option ℕ) (old now : NodeList) (handed : Handed)
-    (tiles : List Row) (t : Option WrittenTile) (next end number : ℕ)
-    (w : Written store limit old now handed tiles t next end number) where
-  pub sound_now : IsSoundList store now
-  sound_now = (w.grows 0).sound
-
-  -- as many nodes as children
-  done_count : (error : ℕ) → length (w.done error) ≡ number
-  done_count error =
-      let below = tilesets (docs store) handed.levels in
-      let name = parent_name store old handed in
-      let holder = handed_holder old handed error in
-      let all = ap length (w.rest error) in
-      omega (
-        arith,
-        all,
-        length-append (w.done error) (children_trees store old handed error number w.left),
-        length-written_trees below name holder number w.left,
-        length-written_trees below name holder 0 (children_in t),
-        w.counted,
-      )
-
-  pub nodes_now : length now.nodes.items ≡ length old.nodes.items + number
-  nodes_now = omega (arith, grows_length store limit old now (w.done 0) (w.grows 0), done_count 0)
+    (tiles : List Row) (document : ℕ) (t : Option WrittenTile) (next end number : ℕ)
+    (w : Written store limit old now handed tiles document t next end number) where
+  nodes_now : length now.nodes.items ≡ length old.nodes.items + length w.done
+  nodes_now = grows_length store limit old now w.done w.grows
 
   pub can_take : CanTake old handed → 0 < length old.nodes.items
       → CanTake now (numbered handed number)
-  can_take can some = record {
-    parent = λ h. omega (arith, can.parent some, nodes_now);
-    transform =
-        omega (
-          arith,
-          can.transform,
-          IsFront-length old.transforms.items now.transforms.items
-              (w.grows 0).transforms,
-        );
-  }
+  can_take can some =
+      let still = can_still store limit old now w.done handed w.grows can some in
+      record { parent = still.parent; transform = still.transform }
 
-  name_now : (error : ℕ) → CanTake old handed → 0 < length old.nodes.items
+  name_now : CanTake old handed → 0 < length old.nodes.items
       → handed_name store now (numbered handed number) ≡ child_name
       (parent_name store old handed) number
-  name_now error can some =
+  name_now can some =
       name_below (node_trees store now) (length now.nodes.items) handed.parent number
       (omega (arith, some, nodes_now))
       ∙ ap (λ u. child_name (name_of u) number)
-      (grows_left store limit old now (w.done error) (w.grows error) handed.parent
-      (can.parent some))
+      (grows_left store limit old now w.done w.grows handed.parent (can.parent some))
 
-  pub finished : end ≤ next → AddsChildren store limit old now handed t number
+  pub finished : end ≤ next → AddsChildren store limit old now handed document t number
   finished past = record {
-    grows = λ error. subst (Grows store limit old now) (whole error) (w.grows error);
+    grows = subst (Grows store limit old now) whole w.grows;
     counted = none_left w.left w.counted (omega (arith, w.until));
   }
     where
@@ -164,17 +146,16 @@ module _ (store : Stored) (limit : Option ℕ) (old now : NodeList) (handed : Ha
       none_left no_tiles e z = omega (arith, e)
       none_left (more_tiles u us) e z = absurd (omega (arith, some_tile u))
 
-      no_trees_left : (error : ℕ) (left : WrittenTiles) → tiles_count left ≡ 0
-          → children_trees store old handed error number left ≡ []
-      no_trees_left error no_tiles z = refl
-      no_trees_left error (more_tiles u us) z = absurd (omega (arith, some_tile u))
+      no_trees_left : (left : WrittenTiles) → tiles_count left ≡ 0
+          → written_below store old handed document number left ≡ []
+      no_trees_left no_tiles z = refl
+      no_trees_left (more_tiles u us) z = absurd (omega (arith, some_tile u))
 
-      whole : (error : ℕ) → w.done error ≡ children_trees store old handed error 0 (children_in t)
-      whole error =
-          sym (append-nil (w.done error))
-          ∙ ap (λ us. w.done error ++ us)
-          (sym (no_trees_left error w.left (omega (arith, w.until))))
-          ∙ w.rest error
+      whole : w.done ≡ written_below store old handed document 0 (children_in t)
+      whole =
+          sym (append-nil w.done)
+          ∙ ap (λ us. w.done ++ us) (sym (no_trees_left w.left (omega (arith, w.until))))
+          ∙ w.rest
 
   module _ (inside : next < end) where
     first : Head w.left
@@ -188,12 +169,6 @@ module _ (store : Stored) (limit : Option ℕ) (old now : NodeList) (handed : Ha
 
     counted_left : number + (count_of first.others + 1) ≡ count_of (children_in t)
     counted_left = ap (λ ts. number + count_of ts) (sym first.is) ∙ w.counted
-
-    pub refused : (e : PlainError) → Refuses limit (length now.nodes.items + 1) e
-        → Refuses limit (length old.nodes.items + count_of (children_in t)) e
-    refused e = refuses_more limit (length now.nodes.items + 1)
-        (length old.nodes.items + count_of (children_in t)) e
-        (omega (arith, nodes_now, counted_left))
 
     module _ (row : Row) (read : slice_get tiles next ≡ Some row) where
       row_is : row ≡ row_of first.first
@@ -210,53 +185,86 @@ module _ (store : Stored) (limit : Option ℕ) (old now : NodeList) (handed : Ha
       pub next_past : 1 ≤ row.size
       next_past = omega (arith, size_is, some_tile first.first)
 
-      pub stepped : (new : NodeList) (document : ℕ) → document_rows store document ≡ Some tiles
+    module _ (found : document_rows store document ≡ Some tiles)
+        (address : IsAddress (address_in store document)) where
+      pub there : IsTileAt store document next
+      there = record {
+        tiles = tiles;
+        read = found;
+        tree = first.first;
+        stands = first_stands tiles next first.first first.others stand;
+        address = address;
+      }
+
+      pub has_row : (row : Row) → slice_get tiles next ≡ Some row
+          → HasRow store document next row
+      has_row row read = read_row store document next tiles there found row read
+
+      abbrev one : Option Tree
+      one = written_tree (docs store) (tilesets (docs store) handed.levels)
+          (address_in store document) (child_name (parent_name store old handed) number)
+          (handed_holder old handed 0) first.first
+
+      -- what the call adds
+      one_is : CanTake old handed → 0 < length old.nodes.items
+          → written_at store now (numbered handed number) document next ≡ one
+      one_is can some =
+          let below = tilesets (docs store) handed.levels in
+          let base = address_in store document in
+          let name = handed_name store now (numbered handed number) in
+          ap (option_and_then (written_tree (docs store) below base name
+          (handed_holder now (numbered handed number) 0)))
+          (is_at store document next tiles first.first found
+          (first_stands tiles next first.first first.others stand))
+          ∙ ap (λ m. written_tree (docs store) below base m
+          (handed_holder now (numbered handed number) 0) first.first) (name_now can some)
+          ∙ ap (λ map. written_tree (docs store) below base
+          (child_name (parent_name store old handed) number)
+          (record { transform = map; error = 0; refine = handed.refine }) first.first)
+          (grows_map store limit old now w.done w.grows handed.transform can.transform)
+
+      rest_is : (w.done ++ option_to_list one)
+          ++ written_below store old handed document (number + 1) first.others
+          ≡ written_below store old handed document 0 (children_in t)
+      rest_is =
+          append_assoc w.done (option_to_list one)
+          (written_below store old handed document (number + 1) first.others)
+          ∙ ap (λ ts. w.done ++ written_below store old handed document number ts) (sym first.is)
+          ∙ w.rest
+
+      pub refused : CanTake old handed → 0 < length old.nodes.items → (e : PlainError)
+          → Refuses limit (length now.nodes.items + length (option_to_list
+          (written_at store now (numbered handed number) document next))) e
+          → Refuses limit (length old.nodes.items
+          + length (written_below store old handed document 0 (children_in t))) e
+      refused can some e =
+          refuses_more limit _ (length old.nodes.items
+          + length (written_below store old handed document 0 (children_in t))) e
+          (omega (
+            arith,
+            nodes_now,
+            ap (λ o. length (option_to_list o)) (one_is can some),
+            ap length rest_is,
+            length-append (w.done ++ option_to_list one)
+                (written_below store old handed document (number + 1) first.others),
+            length-append w.done (option_to_list one),
+          ))
+
+      pub stepped : (row : Row) → slice_get tiles next ≡ Some row → (new : NodeList)
           → CanTake old handed → 0 < length old.nodes.items
-          → AddsTile (numbered handed number) (Tile document next) row.parts now new
-          → IsWithin limit (length now.nodes.items + 1)
-          → Written store limit old new handed tiles t (next + row.size) end (number + 1)
-      stepped new document found can some adds within = record {
+          → Grows store limit now new (option_to_list
+          (written_at store now (numbered handed number) document next))
+          → Written store limit old new handed tiles document t (next + row.size) end (number + 1)
+      stepped row read new can some g = record {
         left = first.others;
-        stand = subst (λ k. AllStandAt tiles (next + k) first.others) (sym size_is)
+        stand = subst (λ k. AllStandAt tiles (next + k) first.others) (sym (size_is row read))
             (rest_stands tiles next first.first first.others stand);
-        until = omega (arith, size_is, count_left, w.until);
+        until = omega (arith, size_is row read, count_left, w.until);
         within = w.within;
         counted = omega (arith, counted_left);
-        small = omega (arith, w.small, next_past);
-        done = λ error. w.done error ++ one error ∷ [];
-        grows = λ error. grows_then store limit old now new (w.done error) (one error ∷ [])
-            (w.grows error) (added error);
-        rest = λ error. append_assoc (w.done error) (one error ∷ [])
-            (children_trees store old handed error (number + 1) first.others)
-            ∙ ap (λ ts. w.done error ++ children_trees store old handed error number ts)
-            (sym first.is)
-            ∙ w.rest error;
+        small = omega (arith, w.small, next_past row read);
+        done = w.done ++ option_to_list one;
+        grows = grows_then store limit old now new w.done (option_to_list one) w.grows
+            (subst (λ o. Grows store limit now new (option_to_list o)) (one_is can some) g);
+        rest = rest_is;
       }
-        where
-          below : Below
-          below = tilesets (docs store) handed.levels
-
-          one : ℕ → Tree
-          one error = written_tree below (child_name (parent_name store old handed) number)
-              (handed_holder old handed error) first.first
-
-          there : IsTileAt store document next
-          there = record {
-            tiles = tiles;
-            read = found;
-            tree = first.first;
-            stands = first_stands tiles next first.first first.others stand;
-          }
-
-          added : (error : ℕ) → Grows store limit now new (one error ∷ [])
-          added error =
-              subst (λ name. Grows store limit now new
-              (written_tree below name (handed_holder old handed error) first.first ∷ []))
-              (name_now error can some)
-              (grows_tile store limit now new (numbered handed number) document next row.parts
-              first.first (handed_holder old handed error)
-              sound_now (can_take can some) there (is_at store document next tiles first.first found
-              there.stands)
-              (ap (λ (r : Row). r.parts) row_is) adds within
-              (sym (grows_map store limit old now (w.done error) (w.grows error) handed.transform
-              can.transform)) refl)

@@ -1,25 +1,32 @@
 -- What is added to a list of nodes.
 use Rattle.std.specs.Prelude.{ℕ, ◌≡◌, ◌<◌, ◌≤◌, ◌+◌, ⊤, Option, Some, None, Result, Ok, Err, List, [], ◌∷◌, ◌++◌, length, slice_get, unwrap_or}
+use Rattle.std.specs.Option.{option_and_then, option_map_or}
 use Rattle.fixed_geometry.specs.Maps.{Map, after, identity}
 use Rattle.volumes.specs.Moves.{moved_error}
+use Rattle.tileset_schema.specs.Implicit.{ImplicitParts}
 use Rattle.tileset_schema.specs.Parts.{WrittenParts}
-use Rattle.tileset_schema.specs.Tiles.{WrittenTile}
+use Rattle.tileset_schema.specs.Tiles.{WrittenTile, WrittenTiles}
+use Rattle.implicit_walk.specs.Roots.{error_at}
 use Rattle.doc_store.specs.Store.{Stored, docs}
 use Rattle.expanded_tree.specs.Tree.{Tree, children_of, name_of, tree_size}
-use Rattle.tree_expansion.specs.Expansion.{Holder, count_of, external_of, externals, tilesets, written_trees}
+use Rattle.tree_expansion.specs.Expansion.{Holder, RootTile, count_of, external_of, externals, holder_of, place_contents, place_holder, place_name, root_tile, tilesets, written_tree, written_trees}
 use Rattle.plain_tree.specs.declared.error.PlainError.{PlainError}
 use Rattle.plain_tree.specs.declared.error.PlainError.TheVariants.{TooLarge, OutOfMemory}
 use Rattle.plain_tree.specs.declared.node.Handed.{Handed}
 use Rattle.plain_tree.specs.declared.node.NodeSource.{NodeSource}
-use Rattle.plain_tree.specs.declared.node.NodeSource.TheVariants.{Pending}
+use Rattle.plain_tree.specs.declared.node.NodeSource.TheVariants.{Pending, Implicit}
 use Rattle.plain_tree.specs.declared.node.PlainNode.{PlainNode}
 use Rattle.plain_tree.specs.declared.node.Waiting.{Waiting}
 use Rattle.plain_tree.specs.declared.node_list.NodeList.{NodeList}
+use Rattle.plain_tree.specs.declared.place_entry.PlaceEntry.{PlaceEntry}
+use Rattle.plain_tree.specs.declared.tables.Tables.{Tables}
 use Rattle.plain_tree.specs.Plain.{tree_in}
 use Rattle.plain_tree.specs.Windows.{AreParents, HasFew}
 use Rattle.plain_tree.specs.Waits.{pending_count, top_waits, tops_wait}
-use Rattle.plain_tree.specs.Tiles.{children_in, tile_at}
-use Rattle.plain_tree.specs.Nodes.{IsSoundList, map_in, name_by, node_trees}
+use Rattle.plain_tree.specs.Tiles.{address_in, children_in, tile_at}
+use Rattle.plain_tree.specs.Places.{IsPlaced, IsTop, map_in, top_in}
+use Rattle.plain_tree.specs.Fronts.{Continues, IsFront}
+use Rattle.plain_tree.specs.Nodes.{IsSoundList, name_by, node_trees}
 
 -- ---- the limit on nodes
 
@@ -44,11 +51,6 @@ Tells limit old (Err e) fact = Refuses limit (length old.nodes.items + 1) e
 
 -- ---- one node
 
--- further values stand behind these, if any
-pub record IsFront {A : Type 0} (front all : List A) : Type 0 where
-  pub behind : List A
-  pub whole : all ≡ front ++ behind
-
 -- what the node takes over
 pub record TakesOver (handed : Handed) (n : PlainNode) : Type 0 where
   pub parent : n.parent ≡ handed.parent
@@ -64,8 +66,7 @@ pub record IsBelow (old new : List Map) (above : ℕ) (own : Map) (number : ℕ)
 -- one node more, and nothing else
 pub record AddsNode (node : PlainNode) (old new : NodeList) : Type 0 where
   pub nodes : new.nodes.items ≡ old.nodes.items ++ node ∷ []
-  pub transforms : new.transforms.items ≡ old.transforms.items
-  pub waiting : new.waiting.items ≡ old.waiting.items
+  pub tables : new.tables ≡ old.tables
   pub bounds : new.bounds.items ≡ old.bounds.items
 
 -- a node for a tile, whose transform is below that of its parent
@@ -75,22 +76,33 @@ pub record AddsTile (handed : Handed) (source : NodeSource) (own : WrittenParts)
   pub takes_over : TakesOver handed node
   pub source_is : node.source ≡ source
   pub refine : node.refine ≡ unwrap_or own.refine handed.refine
-  pub transform : IsBelow old.transforms.items new.transforms.items handed.transform own.transform
-      node.transform
+  pub transform : IsBelow old.tables.transforms.items new.tables.transforms.items
+      handed.transform own.transform node.transform
   pub nodes : new.nodes.items ≡ old.nodes.items ++ node ∷ []
-  pub waiting : new.waiting.items ≡ old.waiting.items
+  pub tables : new.tables ≡ record old.tables { transforms = new.tables.transforms }
   pub bounds : new.bounds.items ≡ old.bounds.items
 
 -- a node for a tileset that isn't loaded
 pub record AddsPending (handed : Handed) (pending : Waiting) (old new : NodeList) : Type 0 where
   pub node : PlainNode
   pub takes_over : TakesOver handed node
-  pub source : node.source ≡ Pending (length old.waiting.items)
+  pub source : node.source ≡ Pending (length old.tables.waiting.items)
   pub refine : node.refine ≡ handed.refine
   pub transform : node.transform ≡ handed.transform
   pub nodes : new.nodes.items ≡ old.nodes.items ++ node ∷ []
-  pub transforms : new.transforms.items ≡ old.transforms.items
-  pub waiting : new.waiting.items ≡ old.waiting.items ++ pending ∷ []
+  pub waiting : new.tables.waiting.items ≡ old.tables.waiting.items ++ pending ∷ []
+  pub tables : new.tables ≡ record old.tables { waiting = new.tables.waiting }
+  pub bounds : new.bounds.items ≡ old.bounds.items
+
+-- a node for an implicit tile
+pub record AddsPlace (handed : Handed) (entry : PlaceEntry) (old new : NodeList) : Type 0 where
+  pub node : PlainNode
+  pub takes_over : TakesOver handed node
+  pub source : node.source ≡ Implicit (length old.tables.places.items)
+  pub transform : node.transform ≡ handed.transform
+  pub nodes : new.nodes.items ≡ old.nodes.items ++ node ∷ []
+  pub places : new.tables.places.items ≡ old.tables.places.items ++ entry ∷ []
+  pub tables : new.tables ≡ record old.tables { places = new.tables.places }
   pub bounds : new.bounds.items ≡ old.bounds.items
 
 -- ---- nodes for trees
@@ -101,8 +113,8 @@ pub record Grows (store : Stored) (limit : Option ℕ) (old new : NodeList)
   pub trees : node_trees store new ≡ node_trees store old ++ ts
   pub sound : IsSoundList store new
   pub within : IsWithin limit (length old.nodes.items) → IsWithin limit (length new.nodes.items)
-  pub transforms : IsFront old.transforms.items new.transforms.items
-  pub waits : length new.waiting.items ≡ length old.waiting.items + tops_wait ts
+  pub tables : Continues old.tables new.tables
+  pub waits : length new.tables.waiting.items ≡ length old.tables.waiting.items + tops_wait ts
   pub bounds : new.bounds.items ≡ old.bounds.items
 
 -- further nodes for all these trees, or a refusal
@@ -121,12 +133,12 @@ AddsChildrenOf store limit old new t (Err e) =
 -- the parent and its transform are there, unless the root is to come
 pub record CanTake (list : NodeList) (handed : Handed) : Type 0 where
   pub parent : 0 < length list.nodes.items → handed.parent < length list.nodes.items
-  pub transform : handed.transform < length list.transforms.items
+  pub transform : handed.transform < length list.tables.transforms.items
 
 -- what the parent hands down, with its error
 abbrev pub handed_holder : NodeList → Handed → ℕ → Holder
 handed_holder list handed error = record {
-  transform = map_in list.transforms.items handed.transform;
+  transform = map_in list.tables.transforms.items handed.transform;
   error = error;
   refine = handed.refine;
 }
@@ -139,35 +151,83 @@ abbrev pub handed_name : Stored → NodeList → Handed → List ℕ
 handed_name store list handed =
     name_by (node_trees store list) (length list.nodes.items) handed.parent handed.number
 
+-- the node of a tile that a document writes out, if it leaves one; the error of the tile above
+-- tells nothing of it
+abbrev pub written_at : Stored → NodeList → Handed → ℕ → ℕ → Option Tree
+written_at store list handed document tile =
+    option_and_then
+    (written_tree (docs store) (tilesets (docs store) handed.levels) (address_in store document)
+    (handed_name store list handed) (handed_holder list handed 0))
+    (tile_at store document tile)
+
+-- the nodes of written children, the first of which has this number
+abbrev pub written_below : Stored → NodeList → Handed → ℕ → ℕ → WrittenTiles → List Tree
+written_below store list handed document number children =
+    written_trees (docs store) (tilesets (docs store) handed.levels) (address_in store document)
+    (parent_name store list handed) (handed_holder list handed 0) number children
+
 -- the nodes of the written children of a tile, of which there are `number`, or a refusal
 pub record AddsChildren (store : Stored) (limit : Option ℕ) (old new : NodeList) (handed : Handed)
-    (t : Option WrittenTile) (number : ℕ) : Type 0 where
-  pub grows : (error : ℕ)
-      → Grows store limit old new (written_trees (tilesets (docs store) handed.levels)
-      (parent_name store old handed) (handed_holder old handed error) 0 (children_in t))
+    (document : ℕ) (t : Option WrittenTile) (number : ℕ) : Type 0 where
+  pub grows : Grows store limit old new
+      (written_below store old handed document 0 (children_in t))
   pub counted : number ≡ count_of (children_in t)
 
 abbrev pub AddsWritten : Stored → Option ℕ → NodeList → NodeList → Handed → ℕ → ℕ
     → Result ℕ PlainError → Type 0
 AddsWritten store limit old new handed document tile (Ok number) =
-    AddsChildren store limit old new handed (tile_at store document tile) number
+    AddsChildren store limit old new handed document (tile_at store document tile) number
 AddsWritten store limit old new handed document tile (Err e) =
-    Refuses limit (length old.nodes.items + count_of (children_in (tile_at store document tile))) e
+    Refuses limit (length old.nodes.items
+    + length (written_below store old handed document 0
+    (children_in (tile_at store document tile)))) e
 
 -- the external tilesets of a tile that says this of itself
 abbrev pub external_trees : Stored → NodeList → Handed → WrittenParts → List Tree
 external_trees store list handed own =
     externals (tilesets (docs store) handed.levels) (parent_name store list handed)
     (handed_holder list handed
-    (moved_error own.error (map_in list.transforms.items handed.transform)))
+    (moved_error own.error (map_in list.tables.transforms.items handed.transform)))
     handed.number (external_of own.contents)
+
+-- ---- implicit roots
+
+-- the implicit root that this tile of a document is
+abbrev pub handed_top : Stored → NodeList → Handed → ℕ → WrittenParts → ImplicitParts → RootTile
+handed_top store list handed document own part =
+    root_tile (address_in store document) (handed_name store list handed)
+    (holder_of (handed_holder list handed 0) own) own part
+
+-- one more implicit root, of this number
+pub record AddsTop (store : Stored) (top : RootTile) (old new : NodeList) (number : ℕ)
+    : Type 0 where
+  pub nodes : new.nodes.items ≡ old.nodes.items
+  pub bounds : new.bounds.items ≡ old.bounds.items
+  pub tables : Continues old.tables new.tables
+  pub waiting : new.tables.waiting.items ≡ old.tables.waiting.items
+  pub is_top : IsTop store new.tables number top
+
+-- what is handed down is that of the tile of this entry
+pub record IsPlaceParent (store : Stored) (list : NodeList) (handed : Handed)
+    (entry : PlaceEntry) : Type 0 where
+  pub top : RootTile
+  pub placed : IsPlaced store list.tables entry top
+  pub name : parent_name store list handed ≡ place_name top entry.at
+  pub holder : handed_holder list handed (error_at top.root entry.at) ≡ place_holder top entry.at
+
+-- the external tilesets of the tile of this entry
+abbrev pub place_external : Stored → Tables → ℕ → PlaceEntry → List Tree
+place_external store tables levels entry =
+    option_map_or (λ top. externals (tilesets (docs store) levels) (place_name top entry.at)
+    (place_holder top entry.at) 0 (external_of (place_contents (docs store) top entry.at)))
+    (top_in store tables entry.top) []
 
 -- ---- all nodes
 
 pub record IsEmptyList (list : NodeList) : Type 0 where
   pub nodes : list.nodes.items ≡ []
-  pub waiting : list.waiting.items ≡ []
-  pub transforms : list.transforms.items ≡ identity ∷ []
+  pub waiting : list.tables.waiting.items ≡ []
+  pub transforms : list.tables.transforms.items ≡ identity ∷ []
   pub bounds : list.bounds.items ≡ 1 ∷ []
 
 -- all nodes below the one of the old list
@@ -177,8 +237,8 @@ pub record IsGrown (store : Stored) (limit : Option ℕ) (old new : NodeList) : 
   pub children : AreParents (node_trees store new) new.bounds.items
   pub counted : tree_size (tree_in (node_trees store old) 0) ≡ length new.nodes.items
   pub within : IsWithin limit 1 → IsWithin limit (length new.nodes.items)
-  pub waits : length old.waiting.items ≡ top_waits (tree_in (node_trees store old) 0)
-      → pending_count (tree_in (node_trees store old) 0) ≡ length new.waiting.items
+  pub waits : length old.tables.waiting.items ≡ top_waits (tree_in (node_trees store old) 0)
+      → pending_count (tree_in (node_trees store old) 0) ≡ length new.tables.waiting.items
 
 abbrev pub GrowsWhole : Stored → Option ℕ → NodeList → NodeList
     → Result (Unit {0}) PlainError → Type 0

@@ -5,7 +5,13 @@ pub mod Windows
 pub mod Waits
 pub mod Tiles
 pub mod Found
+pub mod PlaceContents
+pub mod Tops
+pub mod Places
+pub mod Fronts
+pub mod Entries
 pub mod Nodes
 pub mod Growth
+pub mod Names
 pub mod Listed
 pub mod Standing

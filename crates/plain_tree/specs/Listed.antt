@@ -13,4 +13,4 @@ pub record IsListed (store : Stored) (list : NodeList) : Type 0 where
   pub sound : IsSoundList store list
   pub root : slice_get (node_trees store list) 0 ≡ stored_tree store
   pub children : AreParents (node_trees store list) list.bounds.items
-  pub waits : waits_in (stored_tree store) ≡ length list.waiting.items
+  pub waits : waits_in (stored_tree store) ≡ length list.tables.waiting.items

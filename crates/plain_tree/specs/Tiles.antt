@@ -1,6 +1,8 @@
 -- Tiles by the number of their document and their own number there, in preorder from 0.
 use Rattle.std.specs.Prelude.{ℕ, ◌≡◌, Option, Some, None, List, [], ◌++◌, drop, slice_get}
-use Rattle.std.specs.Option.{option_and_then}
+use Rattle.std.specs.Option.{option_and_then, option_map_or}
+use Rattle.tile_uri.specs.Addresses.{IsAddress}
+use Rattle.tileset_schema.specs.Implicit.{ImplicitParts}
 use Rattle.tileset_schema.specs.Tiles.{WrittenTile, WrittenTiles, written, no_tiles, tile_count}
 use Rattle.tileset_schema.specs.Preorder.{Row, rows as rows_of_tile, trees}
 use Rattle.doc_store.specs.Store.{Stored}
@@ -9,6 +11,11 @@ use Rattle.doc_store.specs.States.{rows_of}
 -- the tiles of a document, where it is read
 abbrev pub document_rows : Stored → ℕ → Option (List Row)
 document_rows store document = option_and_then rows_of (slice_get store.loaded document)
+
+-- the address of a document
+abbrev pub address_in : Stored → ℕ → List ℕ
+address_in store document =
+    option_map_or (λ l. l.key.address) (slice_get store.loaded document) []
 
 -- the tree of a tile among these
 abbrev pub tile_among : List Row → ℕ → Option WrittenTile
@@ -23,12 +30,13 @@ pub record StandsAt (tiles : List Row) (number : ℕ) (t : WrittenTile) : Type 0
   pub behind : List Row
   pub here : drop number tiles ≡ rows_of_tile t ++ behind
 
--- the tile is there
+-- the tile is there, in a document that stands at an address
 pub record IsTileAt (store : Stored) (document number : ℕ) : Type 0 where
   pub tiles : List Row
   pub read : document_rows store document ≡ Some tiles
   pub tree : WrittenTile
   pub stands : StandsAt tiles number tree
+  pub address : IsAddress (address_in store document)
 
 -- what a tile says and how many tiles its tree has
 abbrev pub row_of : WrittenTile → Row
@@ -54,6 +62,13 @@ children_in (Some (written own children)) = children
 abbrev pub contents_in : Option WrittenTile → List (List ℕ)
 contents_in None = []
 contents_in (Some (written own children)) = own.contents
+
+-- what a tile says of implicit tiles below it
+abbrev pub part_of : WrittenTile → Option ImplicitParts
+part_of (written own children) = own.implicit
+
+abbrev pub part_at : Stored → ℕ → ℕ → Option ImplicitParts
+part_at store document tile = option_and_then part_of (tile_at store document tile)
 
 -- all tiles of some tree
 pub record IsDocument (tiles : List Row) : Type 0 where

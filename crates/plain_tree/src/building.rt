@@ -1,6 +1,7 @@
 //! How the list of nodes grows.
 
-ghost use Rattle.std.specs.Prelude.{◌≡◌, ◌+◌, ◌<◌, ◌≤◌, ◌^◌, Some, option_to_list, length, slice_get, ◌∷◌, [], IfOk, IfErr};
+ghost use Rattle.std.specs.Prelude.{◌≡◌, ◌+◌, ◌<◌, ◌≤◌, ◌^◌, ℕ, List, Some, option_to_list, length, slice_get, ◌∷◌, [], IfOk, IfErr};
+ghost use Rattle.tile_uri.specs.Addresses.{IsAddress};
 ghost use Rattle.volumes.specs.Limits.{error_limit};
 ghost use Rattle.doc_store.specs.Store.{docs};
 ghost use Rattle.tree_expansion.specs.Expansion.{tileset, tilesets};
@@ -8,9 +9,10 @@ ghost use Rattle.plain_tree.specs.Trees.{size_of, stored_tree};
 ghost use Rattle.plain_tree.specs.Listed.{IsListed};
 ghost use Rattle.plain_tree.specs.Plain.{tree_in};
 ghost use Rattle.plain_tree.specs.Nodes.{IsSoundList, node_trees};
-ghost use Rattle.plain_tree.specs.Growth.{Adds, AddsChildrenOf, AddsWritten, CanTake, GrowsWhole, IsWithin, Refuses, external_trees, handed_holder, handed_name};
+ghost use Rattle.plain_tree.specs.Growth.{Adds, AddsChildrenOf, AddsWritten, CanTake, GrowsWhole, IsWithin, Refuses, external_trees, handed_holder, handed_name, written_at};
 ghost use Rattle.plain_tree.specs.declared.node.NodeSource.TheVariants.{Tile};
-ghost use Rattle.plain_tree.specs.Tiles.{IsDocument, StandsIn, document_rows};
+ghost use Rattle.plain_tree.specs.Found.{IsFound, IsFoundSome};
+ghost use Rattle.plain_tree.specs.Tiles.{HasRow, IsDocument, IsTileAt, StandsIn, address_in, document_rows};
 
 use crate::documents::{find, tile_count, tile_of};
 use crate::error::PlainError;
@@ -38,6 +40,7 @@ impl NodeList {
         requires sound { IsSoundList store.now self.old }
         requires handed { CanTake self.old handed }
         requires error { error ≤ error_limit }
+        requires address { IsAddress address.now }
         ensures { Adds store.now limit self.old self.new
             (option_to_list (tileset (docs store.now) (tilesets (docs store.now) handed.levels)
             (handed_name store.now self.old handed) (handed_holder self.old handed error)
@@ -46,6 +49,32 @@ impl NodeList {
         let Ok(found) = find(alloc, store, address) else {
             return Err(PlainError::OutOfMemory);
         };
+        match self.push_found_tileset(alloc, store, handed, error, found, limit) {
+            Err(e) => Err(e),
+            Ok(()) => Ok(()),
+        }
+    }
+
+    /// The same of a tileset of which this is known.
+    pub(crate) fn push_found_tileset(
+        &mut self,
+        alloc: Global,
+        store: &DocStore,
+        handed: Handed,
+        error: u64,
+        found: Found,
+        limit: Option<u32>,
+    ) -> Result<(), PlainError>
+        requires sound { IsSoundList store.now self.old }
+        requires handed { CanTake self.old handed }
+        requires error { error ≤ error_limit }
+        requires found { IsFoundSome store.now found }
+        ensures { (address : List ℕ) → IsFound store.now address found
+            → Adds store.now limit self.old self.new
+            (option_to_list (tileset (docs store.now) (tilesets (docs store.now) handed.levels)
+            (handed_name store.now self.old handed) (handed_holder self.old handed error)
+            address)) result }
+    {
         match found {
             Found::Lost => Ok(()),
             Found::Waiting { key } => {
@@ -56,8 +85,7 @@ impl NodeList {
             }
             Found::Here { document } => {
                 let own = tile_of(store, document, 0);
-                let source = NodeSource::Tile { document, tile: 0 };
-                match self.push_tile(handed, source, own, limit) {
+                match self.push_written_tile(alloc, store, handed, document, 0, own, limit) {
                     Err(e) => Err(e),
                     Ok(()) => Ok(()),
                 }
@@ -65,9 +93,38 @@ impl NodeList {
         }
     }
 
-    /// Adds the nodes of the written children of a tile, and answers how many there are.
+    /// Adds the node of a tile that a document writes out and that says this of itself, if it
+    /// leaves one (OGC 22-025r4, "Tiles").
+    fn push_written_tile(
+        &mut self,
+        alloc: Global,
+        store: &DocStore,
+        handed: Handed,
+        document: u32,
+        tile: u32,
+        own: &Written,
+        limit: Option<u32>,
+    ) -> Result<(), PlainError>
+        requires sound { IsSoundList store.now self.old }
+        requires handed { CanTake self.old handed }
+        requires there { IsTileAt store.now document tile }
+        requires own { HasRow store.now document tile own.now }
+        ensures { Adds store.now limit self.old self.new
+            (option_to_list (written_at store.now self.old handed document tile)) result }
+    {
+        if own.implicit().is_some() {
+            return self.push_implicit_root(alloc, store, handed, document, tile, own, limit);
+        }
+        match self.push_tile(handed, NodeSource::Tile { document, tile }, own, limit) {
+            Err(e) => Err(e),
+            Ok(()) => Ok(()),
+        }
+    }
+
+    /// Adds the nodes of the written children of a tile, and answers how many children there are.
     fn push_written(
         &mut self,
+        alloc: Global,
         store: &DocStore,
         tiles: &[Written],
         handed: Handed,
@@ -80,6 +137,7 @@ impl NodeList {
         requires some { 0 < length self.old.nodes.items }
         requires tiles { document_rows store.now document ≡ Some tiles.now }
         requires document { IsDocument tiles.now }
+        requires address { IsAddress (address_in store.now document) }
         requires there { StandsIn tiles.now tile }
         ensures { AddsWritten store.now limit self.old self.new handed document tile result }
     {
@@ -90,11 +148,8 @@ impl NodeList {
         let mut number = 0;
         while next < end {
             let own = &tiles[next as usize];
-            let source = NodeSource::Tile {
-                document,
-                tile: next,
-            };
-            match self.push_tile(Handed { number, ..handed }, source, own, limit) {
+            let handed = Handed { number, ..handed };
+            match self.push_written_tile(alloc, store, handed, document, next, own, limit) {
                 Err(e) => return Err(e),
                 Ok(()) => {}
             }
@@ -178,7 +233,7 @@ impl NodeList {
             levels: node.levels,
             refine: node.refine,
         };
-        match self.push_written(store, tiles, handed, document, tile, limit) {
+        match self.push_written(alloc, store, tiles, handed, document, tile, limit) {
             Err(e) => Err(e),
             Ok(number) => {
                 let handed = Handed { number, ..handed };
@@ -206,6 +261,12 @@ impl NodeList {
         let node = self.nodes[place as usize];
         match node.source {
             NodeSource::Pending { waiting: _ } => Ok(()),
+            NodeSource::Implicit { place: number } => {
+                match self.push_place_children(alloc, store, place, node, number, limit) {
+                    Err(e) => Err(e),
+                    Ok(()) => Ok(()),
+                }
+            }
             NodeSource::Tile { document, tile } => {
                 match self.push_tile_children(alloc, store, place, node, document, tile, limit) {
                     Err(e) => Err(e),

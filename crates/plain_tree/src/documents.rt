@@ -1,6 +1,7 @@
 //! What the store knows of a tileset, and the tiles of its documents.
 
 ghost use Rattle.std.specs.Prelude.{◌≡◌, ◌<◌, ◌^◌, None, IfOk, IfSome, length};
+ghost use Rattle.tile_types.specs.declared.key.Kind.TheVariants as kind;
 ghost use Rattle.doc_store.specs.Store.{docs};
 ghost use Rattle.doc_store.specs.States.{rows_at};
 ghost use Rattle.plain_tree.specs.Found.{IsFound, IsNumber};
@@ -13,11 +14,12 @@ use tile_types::{Key, Kind, Text};
 use tileset_schema::Written;
 
 /// The number of the tileset at an address, where it is read.
-fn number_of(store: &DocStore, address: &Text) -> Option<u32>
-    ensures read { IfSome result (λ number. IsNumber store.now address.now number) }
-    ensures unread { result ≡ None → rows_at (docs store.now) address.now ≡ None }
+fn number_of(store: &DocStore, key: &Key) -> Option<u32>
+    requires { key.now.kind ≡ kind.Tileset }
+    ensures read { IfSome result (λ number. IsNumber store.now key.now.address number) }
+    ensures unread { result ≡ None → rows_at (docs store.now) key.now.address ≡ None }
 {
-    let number = store.number_of(address)?;
+    let number = store.number_of(key)?;
     match store.document(number) {
         None => None,
         Some(_) => Some(number),
@@ -28,13 +30,13 @@ fn number_of(store: &DocStore, address: &Text) -> Option<u32>
 pub(crate) fn find(alloc: Global, store: &DocStore, address: &Text) -> Result<Found, AllocError>
     ensures { IfOk result (λ found. IsFound store.now address.now found) }
 {
-    if let Some(document) = number_of(store, address) {
-        return Ok(Found::Here { document });
-    }
     let key = Key {
         kind: Kind::Tileset,
         address: address.copy(alloc)?,
     };
+    if let Some(document) = number_of(store, &key) {
+        return Ok(Found::Here { document });
+    }
     match store.state_of(&key) {
         DocState::NotLoaded => Ok(Found::Waiting { key }),
         _ => Ok(Found::Lost),

@@ -1,4 +1,4 @@
-//! What is known of a tileset.
+//! What is known of a tileset, and of a place below an implicit root.
 
 use tile_types::Key;
 
@@ -11,4 +11,15 @@ pub(crate) enum Found {
     Lost,
     /// It is read, as the document of this number.
     Here { document: u32 },
+}
+
+/// What is found at a place below an implicit root.
+#[derive(Debug, Drop)]
+pub(crate) enum FoundTile {
+    /// There is no tile.
+    No,
+    /// There is one, and the document of its subtree has this number.
+    Read { subtree: u32 },
+    /// The subtree of this key decides, once it is loaded.
+    Awaited { key: Key },
 }

@@ -7,8 +7,11 @@ use tile_types::{Key, Refine};
 pub(crate) enum NodeSource {
     /// A tile, by the number of its document and its own number there, in preorder.
     Tile { document: u32, tile: u32 },
-    /// A tileset that isn't loaded, by its number among those.
+    /// A tileset that isn't loaded, by its number among what isn't.
     Pending { waiting: u64 },
+    /// A tile below an implicit root or the root itself, or a node that waits for its subtree, by
+    /// its number among those.
+    Implicit { place: u64 },
 }
 
 /// A node. Its children stand side by side.
@@ -16,7 +19,8 @@ pub(crate) enum NodeSource {
 pub(crate) struct PlainNode {
     /// The place of its parent. The root stands at place 0, and has none.
     pub(crate) parent: u64,
-    /// The number of its computed transform; of a pending node that of its parent.
+    /// The number of its computed transform; of a pending node that of its parent. An implicit
+    /// tile has that of its implicit root.
     pub(crate) transform: u64,
     pub(crate) source: NodeSource,
     /// Its number among its parent's children, which its name ends in.
@@ -42,7 +46,8 @@ pub(crate) struct Handed {
     pub(crate) refine: Refine,
 }
 
-/// A tileset that isn't loaded, and the error of the tile that holds it, in micrometres.
+/// A tileset or a subtree that isn't loaded, and the error of the node that waits for it, in
+/// micrometres.
 #[derive(Debug, Drop)]
 pub(crate) struct Waiting {
     pub(crate) key: Key,

@@ -4,15 +4,16 @@ ghost use Rattle.std.specs.Prelude.{◌≡◌, ◌≤◌, ◌<◌, ◌+◌, ◌+
 ghost use Rattle.std.specs.Prelude.{length};
 ghost use Rattle.volumes.specs.Limits.{error_limit};
 ghost use Rattle.volumes.specs.Moves.{moved_error};
-ghost use Rattle.plain_tree.specs.Nodes.{map_in};
-ghost use Rattle.plain_tree.specs.Growth.{AddsNode, AddsPending, AddsTile, IsBelow, IsEmptyList, IsWithin, Passes, Tells};
+ghost use Rattle.plain_tree.specs.Places.{map_in};
+ghost use Rattle.plain_tree.specs.Growth.{AddsNode, AddsPending, AddsPlace, AddsTile, IsBelow, IsEmptyList, IsWithin, Passes, Tells};
 ghost use Rattle.plain_tree.specs.declared.node.NodeSource.TheVariants.{Tile};
 
 use crate::error::{NoRoom, PlainError};
 use crate::node::{Handed, NodeSource, PlainNode, Waiting};
+use crate::place_entry::PlaceEntry;
+use crate::tables::Tables;
 use fixed_geometry::Affine;
 use std::alloc::{AllocError, Global};
-use tile_types::Key;
 use tileset_schema::Written;
 
 /// Nodes, level by level, and what they speak of.
@@ -22,9 +23,7 @@ pub(crate) struct NodeList {
     /// Where the children of each node begin, and last where those of the last node end: each begin
     /// where those of the node before it end.
     pub(crate) bounds: Vec<u64>,
-    pub(crate) waiting: Vec<Waiting>,
-    /// The computed transforms, of which the first is the identity.
-    pub(crate) transforms: Vec<Affine>,
+    pub(crate) tables: Tables,
 }
 
 impl NodeList {
@@ -39,8 +38,14 @@ impl NodeList {
         Ok(NodeList {
             nodes: Vec::new(alloc),
             bounds,
-            waiting: Vec::new(alloc),
-            transforms,
+            tables: Tables {
+                transforms,
+                waiting: Vec::new(alloc),
+                tops: Vec::new(alloc),
+                places: Vec::new(alloc),
+                contents: Vec::new(alloc),
+                external: Vec::new(alloc),
+            },
         })
     }
 
@@ -79,12 +84,12 @@ impl NodeList {
     /// The error of a tile that says this of itself, under the transform of this number, in
     /// micrometres.
     pub(crate) fn moved_error(&self, own: &Written, transform: u64) -> u64
-        requires { transform < length self.now.transforms.items }
+        requires { transform < length self.now.tables.transforms.items }
         ensures value { result
-            ≡ moved_error own.now.parts.error (map_in self.now.transforms.items transform) }
+            ≡ moved_error own.now.parts.error (map_in self.now.tables.transforms.items transform) }
         ensures within { result ≤ error_limit }
     {
-        volumes::moved_error(own.error(), &self.transforms[transform as usize])
+        volumes::moved_error(own.error(), &self.tables.transforms[transform as usize])
     }
 
     /// Adds a node for a tile, which says this of itself.
@@ -95,11 +100,12 @@ impl NodeList {
         own: &Written,
         limit: Option<u32>,
     ) -> Result<(), PlainError>
-        requires { handed.transform < length self.old.transforms.items }
+        requires { handed.transform < length self.old.tables.transforms.items }
         ensures { Tells limit self.old result
             (AddsTile handed source own.now.parts self.old self.new) }
     {
-        let Ok(transform) = transform_below(&mut self.transforms, handed.transform, own) else {
+        let Ok(transform) = transform_below(&mut self.tables.transforms, handed.transform, own)
+        else {
             return Err(PlainError::OutOfMemory);
         };
         let refine = match own.refine() {
@@ -120,6 +126,34 @@ impl NodeList {
         }
     }
 
+    /// Adds a node for a place below an implicit root.
+    pub(crate) fn push_place(
+        &mut self,
+        handed: Handed,
+        entry: PlaceEntry,
+        limit: Option<u32>,
+    ) -> Result<(), PlainError>
+        ensures { Tells limit self.old result (AddsPlace handed entry self.old self.new) }
+    {
+        let node = PlainNode {
+            parent: handed.parent,
+            transform: handed.transform,
+            source: NodeSource::Implicit {
+                place: self.tables.places.len() as u64,
+            },
+            number: handed.number,
+            levels: handed.levels,
+            refine: handed.refine,
+        };
+        let Ok(()) = self.tables.places.push(entry) else {
+            return Err(PlainError::OutOfMemory);
+        };
+        match self.push(node, limit) {
+            Err(e) => Err(e),
+            Ok(()) => Ok(()),
+        }
+    }
+
     /// Adds a node for a tileset that isn't loaded, held by a tile of this error.
     pub(crate) fn push_pending(
         &mut self,
@@ -133,13 +167,13 @@ impl NodeList {
             parent: handed.parent,
             transform: handed.transform,
             source: NodeSource::Pending {
-                waiting: self.waiting.len() as u64,
+                waiting: self.tables.waiting.len() as u64,
             },
             number: handed.number,
             levels: handed.levels,
             refine: handed.refine,
         };
-        let Ok(()) = self.waiting.push(waiting) else {
+        let Ok(()) = self.tables.waiting.push(waiting) else {
             return Err(PlainError::OutOfMemory);
         };
         match self.push(node, limit) {
@@ -150,7 +184,7 @@ impl NodeList {
 }
 
 /// The number of the computed transform of a tile below one of that number.
-fn transform_below(
+pub(crate) fn transform_below(
     transforms: &mut Vec<Affine>,
     above: u64,
     own: &Written,

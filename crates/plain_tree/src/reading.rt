@@ -1,22 +1,42 @@
 //! What is read of a node of the list.
 
 ghost use Rattle.std.specs.Prelude.{◌≡◌, ◌<◌, ◌^◌, Some, option_map, length, slice_get};
-ghost use Rattle.volumes.specs.Moves.{moved_error};
+ghost use Rattle.std.specs.Option.{ForSome};
+ghost use Rattle.volumes.specs.Limits.{IsInRange};
+ghost use Rattle.volumes.specs.Moves.{moved, moved_error};
+ghost use Rattle.doc_store.specs.Store.{docs};
 ghost use Rattle.expanded_tree.specs.Tree.{addresses_of, children_of, facts_of, key_of};
-ghost use Rattle.tree_expansion.specs.Expansion.{written_facts};
+ghost use Rattle.tree_expansion.specs.Expansion.{place_contents, place_facts, written_facts};
 ghost use Rattle.plain_tree.specs.Plain.{tree_in};
 ghost use Rattle.plain_tree.specs.Windows.{IsParent};
-ghost use Rattle.plain_tree.specs.Nodes.{IsSoundList, map_in, node_trees};
+ghost use Rattle.plain_tree.specs.Places.{IsPlaceAt};
+ghost use Rattle.plain_tree.specs.Nodes.{IsSoundList, node_trees};
 
 use crate::contents::{has_external, own_content, own_count};
 use crate::documents::tile_of;
 use crate::node::NodeSource;
 use crate::node_list::NodeList;
+use crate::place_entry::SubtreeState;
+use crate::tables::Tables;
 use doc_store::DocStore;
 use expanded_tree::NodeFacts;
 use fixed_geometry::Affine;
+use implicit_walk::{error_at, volume_at};
 use tile_types::{Key, Refine, Text};
 use tileset_schema::Written;
+use volumes::Volume;
+
+/// A tile's request volume under a transform.
+pub(crate) fn moved_request(own: &Written, transform: &Affine) -> Option<Volume>
+    ensures value { result ≡ option_map (λ volume. moved volume transform.now)
+        own.now.parts.request }
+    ensures within { ForSome result IsInRange }
+{
+    match own.request() {
+        None => None,
+        Some(volume) => Some(volume.moved(transform)),
+    }
+}
 
 /// What is known of a tile of this computed transform that is refined so.
 fn tile_facts(own: &Written, transform: &Affine, refine: Refine) -> NodeFacts
@@ -26,16 +46,36 @@ fn tile_facts(own: &Written, transform: &Affine, refine: Refine) -> NodeFacts
       refine = refine;
     }) own.now.parts }
 {
-    let request = match own.request() {
-        None => None,
-        Some(volume) => Some(volume.moved(transform)),
-    };
     NodeFacts {
         volume: Some(own.volume().moved(transform)),
-        request,
+        request: moved_request(own, transform),
         error: volumes::moved_error(own.error(), transform),
         refine,
         external: has_external(own),
+    }
+}
+
+/// What is known of a node below an implicit root.
+fn place_facts(store: &DocStore, tables: &Tables, number: u64) -> NodeFacts
+    requires { IsPlaceAt store.now tables.now number }
+    ensures { (p : IsPlaceAt store.now tables.now number)
+        → result ≡ place_facts p.has.top p.entry.at
+        (place_contents (docs store.now) p.has.top p.entry.at) }
+{
+    let entry = tables.places[number as usize];
+    let top = &tables.tops[entry.top as usize];
+    let root = top.root(store);
+    let request = if entry.at.level == 0 {
+        top.request
+    } else {
+        None
+    };
+    NodeFacts {
+        volume: Some(volume_at(&root, entry.at)),
+        request,
+        error: error_at(&root, entry.at),
+        refine: top.refine,
+        external: entry.external.count > 0,
     }
 }
 
@@ -50,14 +90,15 @@ pub(crate) fn facts_at(store: &DocStore, list: &NodeList, place: u64) -> NodeFac
         NodeSource::Pending { waiting } => NodeFacts {
             volume: None,
             request: None,
-            error: list.waiting[waiting as usize].error,
+            error: list.tables.waiting[waiting as usize].error,
             refine: node.refine,
             external: false,
         },
         NodeSource::Tile { document, tile } => {
-            let transform = &list.transforms[node.transform as usize];
+            let transform = &list.tables.transforms[node.transform as usize];
             tile_facts(tile_of(store, document, tile), transform, node.refine)
         }
+        NodeSource::Implicit { place } => place_facts(store, &list.tables, place),
     }
 }
 
@@ -71,13 +112,14 @@ pub(crate) fn content_count_at(store: &DocStore, list: &NodeList, place: u64) ->
     match list.nodes[place as usize].source {
         NodeSource::Pending { waiting: _ } => 0,
         NodeSource::Tile { document, tile } => own_count(tile_of(store, document, tile)),
+        NodeSource::Implicit { place } => list.tables.places[place as usize].contents.count,
     }
 }
 
 /// The address of the own content of this number of the node at a place.
 pub(crate) fn content_at<'s>(
     store: &'s DocStore,
-    list: &NodeList,
+    list: &'s NodeList,
     place: u64,
     number: u32,
 ) -> &'s Text
@@ -91,6 +133,10 @@ pub(crate) fn content_at<'s>(
     match list.nodes[place as usize].source {
         NodeSource::Pending { waiting: _ } => unreachable!(),
         NodeSource::Tile { document, tile } => own_content(tile_of(store, document, tile), number),
+        NodeSource::Implicit { place } => {
+            let first = list.tables.places[place as usize].contents.first;
+            &list.tables.contents[first as usize + number as usize]
+        }
     }
 }
 
@@ -103,7 +149,13 @@ pub(crate) fn pending_at<'l>(_store: &DocStore, list: &'l NodeList, place: u64) 
 {
     match list.nodes[place as usize].source {
         NodeSource::Tile { .. } => None,
-        NodeSource::Pending { waiting } => Some(&list.waiting[waiting as usize].key),
+        NodeSource::Pending { waiting } => Some(&list.tables.waiting[waiting as usize].key),
+        NodeSource::Implicit { place } => match list.tables.places[place as usize].state {
+            SubtreeState::Read { subtree: _ } => None,
+            SubtreeState::Awaited { waiting } => {
+                Some(&list.tables.waiting[waiting as usize].key)
+            }
+        },
     }
 }
 

@@ -4,11 +4,13 @@ ghost use Rattle.std.specs.Prelude.{◌≡◌, IfOk};
 ghost use Rattle.tile_types.specs.declared.key.Kind.TheVariants.{Tileset};
 
 mod depths;
+mod implicit;
 mod lines;
 mod nest;
 mod sizes;
 mod states;
 mod steps;
+mod subtrees;
 mod whole;
 
 use bytes::Bytes;
@@ -25,15 +27,23 @@ type Further = (&'static str, Option<&'static str>);
 /// What `$` stands for in the tiles below: a volume, and an error of 1,000,000 micrometres.
 const VOLUME: &str = r#""boundingVolume":{"sphere":[0,0,0,5]},"geometricError":1"#;
 
+/// What `%` stands for: a box, and an error of 4,000,000 micrometres.
+const BOX: &str = r#""boundingVolume":{"box":[0,0,0,8,0,0,0,8,0,0,0,8]},"geometricError":4"#;
+
+/// What `&` stands for behind it: a quadtree of three levels, in subtrees of two.
+const QUADTREE: &str = r#","implicitTiling":{"subdivisionScheme":"QUADTREE","subtreeLevels":2,
+    "availableLevels":3,"subtrees":{"uri":"s/{level}.{x}.{y}.subtree"}}"#;
+
 /// The bytes of a document of this root tile.
 fn document(alloc: Global, tile: &str) -> Result<Bytes, AllocError> {
     let front = r#"{"asset":{"version":"1.1"},"geometricError":9,"root":"#;
     let mut text = String::from_str(alloc, front)?;
     for c in tile.chars() {
-        if c == '$' {
-            text.push_str(VOLUME)?;
-        } else {
-            text.push(c)?;
+        match c {
+            '$' => text.push_str(VOLUME)?,
+            '%' => text.push_str(BOX)?,
+            '&' => text.push_str(QUADTREE)?,
+            _ => text.push(c)?,
         }
     }
     text.push('}')?;

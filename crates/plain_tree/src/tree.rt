@@ -42,9 +42,7 @@ impl<'a> Model for PlainTree<'a> {
 
     ghost view = { λ t. record {
       store = t.store.now;
-      nodes = t.list.nodes.items;
-      waiting = t.list.waiting.items;
-      transforms = t.list.transforms.items;
+      list = t.list;
       opened = t.opened.items;
     } };
 
@@ -72,7 +70,7 @@ impl<'a> PlainTree<'a> {
     pub fn is_whole(&self) -> bool
         ensures { IsTrue result ↔ IsWhole (standing_of self.now).tree }
     {
-        self.list.waiting.is_empty()
+        self.list.tables.waiting.is_empty()
     }
 
     /// All nodes in preorder.

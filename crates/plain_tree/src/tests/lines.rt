@@ -76,7 +76,7 @@ fn lines(alloc: Global, tree: &PlainTree<'_>, nodes: &[Node]) -> Result<String, 
 }
 
 /// The lines of the tree of a store in preorder.
-fn tree_lines(alloc: Global, store: &DocStore) -> Result<String, AllocError> {
+pub(super) fn tree_lines(alloc: Global, store: &DocStore) -> Result<String, AllocError> {
     let tree = PlainTree::build_whole(alloc, store)?;
     let nodes = tree.preorder(alloc)?;
     lines(alloc, &tree, nodes.as_slice())

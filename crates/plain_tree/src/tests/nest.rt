@@ -110,7 +110,7 @@ fn volume_lines(alloc: Global, tree: &PlainTree<'_>, nodes: &[Node]) -> Result<S
 }
 
 /// The lines of the volumes of the tree of a store in preorder.
-fn tree_volumes(alloc: Global, store: &DocStore) -> Result<String, AllocError> {
+pub(super) fn tree_volumes(alloc: Global, store: &DocStore) -> Result<String, AllocError> {
     let tree = PlainTree::build_whole(alloc, store)?;
     let nodes = tree.preorder(alloc)?;
     volume_lines(alloc, &tree, nodes.as_slice())

@@ -11,7 +11,7 @@ use std::test::Fail;
 type Row = (&'static str, &'static [Further], Result<usize, PlainError>);
 
 /// How many nodes the tree of a store has.
-fn size(alloc: Global, store: &DocStore) -> Result<usize, PlainError> {
+pub(super) fn size(alloc: Global, store: &DocStore) -> Result<usize, PlainError> {
     match PlainTree::build(alloc, store) {
         Err(e) => Err(e),
         Ok(tree) => match tree.preorder(alloc) {

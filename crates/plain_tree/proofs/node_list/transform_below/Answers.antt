@@ -1,6 +1,6 @@
 use Rattle.std.proofs.Common.{◌∷◌, ◌++◌, [], sym, ◌∙◌, ap, subst, arith}
 use Rattle.fixed_geometry.specs.Maps.{Map, IsBounded, after}
-use Rattle.plain_tree.specs.Nodes.{map_in}
+use Rattle.plain_tree.specs.Places.{map_in}
 use Rattle.plain_tree.proofs.Maps.{map_read, same_below, more_below}
 use Rattle.plain_tree.proofs.node_list.transform_below.Goals as goal
 

@@ -30,7 +30,7 @@ loop-place-preserved c =
     (omega (arith, c.loop-place-test.true, c.len.ensures, c.loop-place.self.nodes.ok.0))
     c.push_children.new.self _ c.len-end.result c.in-Ok.ensures.0 c.in-Ok.ensures.1
     (omega (arith, c.len-end.ensures, c.push_children.new.self.nodes.ok.0)) refl refl refl
-    (λ s. record { errors = s.errors; nodes = s.nodes }) c.in-Ok-push.ensures.items
+    (λ s. record { nodes = s.nodes }) c.in-Ok-push.ensures.items
 
 pub returns : goal.returns
 returns c =

@@ -1,12 +1,17 @@
 use Rattle.std.proofs.Common.{Some, [], get_or, sym, ap, ◌∙◌, arith}
 use Rattle.tile_uri.specs.Addresses.{is_external}
-use Rattle.plain_tree.proofs.ExternalChildren.{can_follow, content_at, followed, no_levels, not_followed, passed}
+use Rattle.plain_tree.proofs.ExternalChildren.{begins, can_follow, content_at, followed, no_levels, not_followed, passed}
 use Rattle.plain_tree.proofs.node_list.NodeList.push_external.Goals as goal
 
 pub returns-then-handed-eq0 : goal.returns-then-handed-eq0
 returns-then-handed-eq0 c =
     no_levels c.args.store.now c.args.limit c.args.self.now c.args.handed c.args.own.now.parts
     c.requires.sound c.if-handed-eq0.true
+
+pub loop-i-init : goal.loop-i-init
+loop-i-init c =
+    begins c.args.store.now c.args.limit c.args.self.now c.args.handed c.args.own.now.parts
+    c.requires.sound
 
 pub loop-i-preserved-then-not-is_external : goal.loop-i-preserved-then-not-is_external
 loop-i-preserved-then-not-is_external c =

@@ -20,6 +20,16 @@ push_written-requires-clause-handed c =
     (omega (arith, c.content_count.ensures, c.size.ensures, c.if-content_count-size.false)) in
     p.can
 
+pub push_written-requires-clause-address : goal.push_written-requires-clause-address
+push_written-requires-clause-address c =
+    let p = parent_by c.args.store.now c.args.self.now c.args.place c.args.node c.args.document
+    c.args.tile
+    c.tiles-tiles.result.now c.in-Some.found.now.rows c.index-tiles-tile.result c.requires.sound
+    c.requires.node c.requires.source
+    c.in-Some.ensures.tiles c.tiles-tiles.ensures c.index-tiles-tile.is
+    (omega (arith, c.content_count.ensures, c.size.ensures, c.if-content_count-size.false)) in
+    p.address
+
 pub push_external-requires-clause-sound : goal.push_external-requires-clause-sound
 push_external-requires-clause-sound c =
     let p = parent_by c.args.store.now c.args.self.now c.args.place c.args.node c.args.document

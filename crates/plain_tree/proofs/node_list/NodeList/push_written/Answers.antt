@@ -1,7 +1,7 @@
 use Rattle.std.proofs.Common.{refl, arith}
 use Rattle.std.proofs.lemmas.Option.{slice_get_read}
 use Rattle.plain_tree.proofs.Rows.{within_stands, room_row}
-use Rattle.plain_tree.proofs.WrittenChildren.{can_take, finished, next_past, next_within, refused, starts, stepped}
+use Rattle.plain_tree.proofs.WrittenChildren.{can_take, finished, has_row, next_past, next_within, refused, starts, stepped, there}
 use Rattle.plain_tree.proofs.node_list.NodeList.push_written.Goals as goal
 
 pub bounds-tiles-tile : goal.bounds-tiles-tile
@@ -39,14 +39,30 @@ loop-next-init c =
     c.args.document c.args.tile c.size.result c.index-tiles-tile.result there
     c.requires.tiles c.requires.sound read c.size.ensures
 
-pub push_tile-requires : goal.push_tile-requires
-push_tile-requires c =
-    (can_take _ _ _ _ _ _ _ _ _ _ c.loop-next.invariant c.requires.handed c.requires.some).transform
+pub push_written_tile-requires-clause-sound : goal.push_written_tile-requires-clause-sound
+push_written_tile-requires-clause-sound c = c.loop-next.invariant.grows.sound
+
+pub push_written_tile-requires-clause-handed : goal.push_written_tile-requires-clause-handed
+push_written_tile-requires-clause-handed c =
+    can_take _ _ _ _ _ _ _ _ _ _ _ c.loop-next.invariant c.requires.handed c.requires.some
+
+pub push_written_tile-requires-clause-there : goal.push_written_tile-requires-clause-there
+push_written_tile-requires-clause-there c =
+    there _ _ _ _ _ _ _ _ _ _ _ c.loop-next.invariant c.loop-next-test.true c.requires.tiles
+    c.requires.address
+
+pub push_written_tile-requires-clause-own : goal.push_written_tile-requires-clause-own
+push_written_tile-requires-clause-own c =
+    let w = c.loop-next.invariant in
+    let read = slice_get_read c.args.tiles.now _ c.loop-next.next c.index-tiles-next.result refl
+    (omega (arith, w.within, c.loop-next-test.true)) c.index-tiles-next.is in
+    has_row _ _ _ _ _ _ _ _ _ _ _ w c.loop-next-test.true c.requires.tiles c.requires.address
+    c.index-tiles-next.result read
 
 pub returns-in-Err : goal.returns-in-Err
 returns-in-Err c =
-    refused _ _ _ _ _ _ _ _ _ _ c.loop-next.invariant c.loop-next-test.true c.in-Err.e
-    c.in-Err.ensures
+    refused _ _ _ _ _ _ _ _ _ _ _ c.loop-next.invariant c.loop-next-test.true c.requires.tiles
+    c.requires.address c.requires.handed c.requires.some c.in-Err.e c.in-Err.ensures
 
 pub overflow_add-next-in-loop-next : goal.overflow_add-next-in-loop-next
 overflow_add-next-in-loop-next c =
@@ -55,7 +71,7 @@ overflow_add-next-in-loop-next c =
     (omega (arith, w.within, c.loop-next-test.true)) c.index-tiles-next.is in
     omega (
       arith,
-      next_within _ _ _ _ _ _ _ _ _ _ w c.loop-next-test.true c.index-tiles-next.result
+      next_within _ _ _ _ _ _ _ _ _ _ _ w c.loop-next-test.true c.index-tiles-next.result
           read,
       w.within,
       c.tile_count.ensures.fits,
@@ -69,7 +85,7 @@ loop-next-smaller c =
     (omega (arith, w.within, c.loop-next-test.true)) c.index-tiles-next.is in
     omega (
       arith,
-      next_past _ _ _ _ _ _ _ _ _ _ w c.loop-next-test.true c.index-tiles-next.result
+      next_past _ _ _ _ _ _ _ _ _ _ _ w c.loop-next-test.true c.index-tiles-next.result
           read,
       c.size-next.ensures,
       c.loop-next-test.true,
@@ -81,10 +97,10 @@ loop-next-preserved c =
     let read = slice_get_read c.args.tiles.now _ c.loop-next.next c.index-tiles-next.result refl
     (omega (arith, w.within, c.loop-next-test.true)) c.index-tiles-next.is in
     rw c.size-next.ensures
-    (stepped _ _ _ _ _ _ _ _ _ _ w c.loop-next-test.true c.index-tiles-next.result read
-    c.push_tile.new.self c.args.document
-    c.requires.tiles c.requires.handed c.requires.some c.in-Ok.ensures.0 c.in-Ok.ensures.1)
+    (stepped _ _ _ _ _ _ _ _ _ _ _ w c.loop-next-test.true c.requires.tiles c.requires.address
+    c.index-tiles-next.result read c.push_written_tile.new.self c.requires.handed c.requires.some
+    c.in-Ok.ensures)
 
 pub returns : goal.returns
 returns c =
-    finished _ _ _ _ _ _ _ _ _ _ c.loop-next.invariant c.loop-next-test.false
+    finished _ _ _ _ _ _ _ _ _ _ _ c.loop-next.invariant c.loop-next-test.false

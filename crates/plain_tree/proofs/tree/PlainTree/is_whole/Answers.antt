@@ -11,12 +11,12 @@ returns c =
     let tree = stored_tree t.store.now in
     rw (← c.self.view_is) (
       λ h.
-          let empty : (vec_len t.list.waiting == 0) ≡ true = sym c.is_empty.ensures ∙ h in
-          let zero : vec_len t.list.waiting ≡ 0 = search (rules, empty) in
-          is_whole_if tree (omega (arith, zero, t.list.waiting.ok.0, c.self.invariant.waits)),
+          let empty : (vec_len t.list.tables.waiting == 0) ≡ true = sym c.is_empty.ensures ∙ h in
+          let zero : vec_len t.list.tables.waiting ≡ 0 = search (rules, empty) in
+          is_whole_if tree (omega (arith, zero, t.list.tables.waiting.ok.0, c.self.invariant.waits)),
       λ w.
-          let none : vec_len t.list.waiting ≡ 0 =
-          omega (arith, none_wait tree w, t.list.waiting.ok.0, c.self.invariant.waits) in
-          let empty : (vec_len t.list.waiting == 0) ≡ true = search (rules, none) in
+          let none : vec_len t.list.tables.waiting ≡ 0 =
+          omega (arith, none_wait tree w, t.list.tables.waiting.ok.0, c.self.invariant.waits) in
+          let empty : (vec_len t.list.tables.waiting == 0) ≡ true = search (rules, none) in
           c.is_empty.ensures ∙ empty,
     )
