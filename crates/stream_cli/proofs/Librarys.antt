@@ -24,7 +24,7 @@ use Rattle.stream_cli.specs.Listing.{listing}
 use Rattle.stream_cli.specs.Loading.{IsFetched, IsLoadedFrom, Loads, WasFetched, root_of}
 use Rattle.stream_cli.specs.Report.{cut_text}
 use Rattle.stream_cli.specs.Contents.{AreFetched, FetchedContent, bytes_in, contents_of, lacking}
-use Rattle.stream_cli.specs.Runs.{AreTheLibrarys, HadRoom, HasNone, IsReady, contents_asked, lines_asked}
+use Rattle.stream_cli.specs.Runs.{AreTheLibrarys, HadRoom, HasNone, IsReady, LeavesChildren, contents_asked, lines_asked}
 use Rattle.stream_cli.proofs.Given.{given_agree, same_cut}
 use Rattle.stream_cli.proofs.Lacking.{left_out}
 use Rattle.stream_cli.proofs.Limits.{is_within}
@@ -93,10 +93,11 @@ of_library : (command : Command) (library : Library) (store : Stored)
     → AgreesWith library (docs store) → root_address store ≡ root_of command
     → IsReady command (stored_tree store)
     → AreFetched (Some library) (contents_asked command (stored_tree store)) contents
+    → LeavesChildren command library store
     → lines_asked command (bytes_in contents) (stored_tree store)
     ≡ lines_asked command (contents_of library) (full library (root_of command))
 unfolding stored_tree
-of_library (Cut address view) library store contents h root ready fetched =
+of_library (Cut address view) library store contents h root ready fetched leaves =
     let tree = stored_tree store in
     let lines = ideal view nothing_absent tree in
     let given = contents_of library in
@@ -105,9 +106,9 @@ of_library (Cut address view) library store contents h root ready fetched =
     ∙ ap (cut_text given) (sym (left_out view given tree ready.loaded))
     ∙ ap (cut_text given)
     (cut_is_full view (with_all (lacking given)) library (docs store) h (root_address store)
-    ready.loaded
+    ready.loaded leaves
     ∙ ap (λ a. ideal view (lacking given) (full library a)) root)
-of_library (Tiles address) library store contents h root ready fetched =
+of_library (Tiles address) library store contents h root ready fetched leaves =
     ap listing
     (whole_is_full library (docs store) h (root_address store) ready.loaded
     ∙ ap (full library) root)
@@ -118,6 +119,6 @@ pub librarys : (command : Command) (library : Option Library) (store : Stored)
     → AreFetched library (contents_asked command (stored_tree store)) contents
     → AreTheLibrarys command library store (bytes_in contents)
 librarys command None store contents loads ready fetched = tt
-librarys command (Some library) store contents loads ready fetched = λ room.
+librarys command (Some library) store contents loads ready fetched = λ room leaves.
     of_library command library store contents
-    (agrees library store loads.from_library room) (rw loads.root_first refl) ready fetched
+    (agrees library store loads.from_library room) (rw loads.root_first refl) ready fetched leaves

@@ -81,7 +81,9 @@ error_name (error.RefineWord tile) = codes "RefineWord"
 error_name (error.BothContents tile) = codes "BothContents"
 error_name error.TooManyTiles = codes "TooManyTiles"
 error_name (error.BadAddress tile) = codes "BadAddress"
-error_name (error.NotYet tile) = codes "NotYet"
+error_name (error.ImplicitLimits tile) = codes "ImplicitLimits"
+error_name (error.ImplicitSphere tile) = codes "ImplicitSphere"
+error_name (error.ImplicitChildren tile) = codes "ImplicitChildren"
 error_name error.OutOfMemory = codes "OutOfMemory"
 
 abbrev pub field_name : Field → List ℕ
@@ -98,6 +100,11 @@ field_name field.Refine = codes "Refine"
 field_name field.Transform = codes "Transform"
 field_name field.Content = codes "Content"
 field_name field.Uri = codes "Uri"
+field_name field.ImplicitTiling = codes "ImplicitTiling"
+field_name field.Scheme = codes "Scheme"
+field_name field.SubtreeLevels = codes "SubtreeLevels"
+field_name field.AvailableLevels = codes "AvailableLevels"
+field_name field.Subtrees = codes "Subtrees"
 field_name field.Children = codes "Children"
 
 -- the part that a cause speaks of
@@ -122,7 +129,9 @@ tile_of (error.RefineWord tile) = Some tile
 tile_of (error.BothContents tile) = Some tile
 tile_of error.TooManyTiles = None
 tile_of (error.BadAddress tile) = Some tile
-tile_of (error.NotYet tile) = Some tile
+tile_of (error.ImplicitLimits tile) = Some tile
+tile_of (error.ImplicitSphere tile) = Some tile
+tile_of (error.ImplicitChildren tile) = Some tile
 tile_of error.OutOfMemory = None
 
 abbrev pub or_dash : {A : Type 0} → (A → List ℕ) → Option A → List ℕ

@@ -5,7 +5,8 @@ use Rattle.source_port.specs.Library.{Library}
 use Rattle.doc_store.specs.Store.{Stored}
 use Rattle.error_test.specs.Views.{ViewParts}
 use Rattle.expanded_tree.specs.Tree.{Tree}
-use Rattle.tree_expansion.specs.Whole.{IsWhole, document_of, full}
+use Rattle.tree_expansion.specs.Seen.{LeaveNodes, culled_waits}
+use Rattle.tree_expansion.specs.Whole.{IsWhole, document_of, full, whole_docs}
 use Rattle.cut_core.specs.Cut.{ideal}
 use Rattle.cut_core.specs.Laws.{IsLoaded}
 use Rattle.cut_core.specs.Visits.{IsWithinLimit, VisitsTooMany}
@@ -72,11 +73,19 @@ HasNone library key = document_of library key ≡ None
 abbrev pub HadRoom : Library → Stored → Type 0
 HadRoom library store = All (HasNone library) store.gone
 
--- where the library is told and there was room for every document, the lines are those of the tree
--- of all that the library has, with the library's contents
+-- each subtree that a child of a visited tile waits for out of sight leaves a node in the library: a
+-- view doesn't load it, and the child counts as one
+abbrev pub LeavesChildren : Command → Library → Stored → Type 0
+LeavesChildren (Cut address view) library store =
+    LeaveNodes (whole_docs library) (culled_waits view (stored_tree store))
+LeavesChildren (Tiles address) library store = Unit {0}
+
+-- where the library is told, there was room for every document and children out of sight leave
+-- nodes, the lines are those of the tree of all that the library has, with the library's contents
 abbrev pub AreTheLibrarys : Command → Option Library → Stored → Contents → Type 0
 AreTheLibrarys command None store contents = Unit {0}
-AreTheLibrarys command (Some library) store contents = HadRoom library store
+AreTheLibrarys command (Some library) store contents =
+    HadRoom library store → LeavesChildren command library store
     → lines_asked command contents (stored_tree store)
     ≡ lines_asked command (contents_of library) (full library (root_of command))
 

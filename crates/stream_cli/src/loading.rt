@@ -1,9 +1,8 @@
 //! Loading documents from a source into a store.
 
 ghost use Rattle.std.specs.Prelude.{Contains, ◌≡◌, ◌<◌, ◌≤◌, IfErr, IfOk, IsTrue, OnOk, Option, length};
-ghost use Rattle.tile_types.specs.declared.key.Kind.TheVariants.{Tileset};
 ghost use Rattle.doc_store.specs.Docs.{is_unread};
-ghost use Rattle.doc_store.specs.Store.{IsOpened, docs};
+ghost use Rattle.doc_store.specs.Store.{IsDocumentKind, IsOpened, docs};
 ghost use Rattle.doc_store.specs.declared.limits.TheConstants.{DOCUMENT_LIMIT};
 ghost use Rattle.source_port.specs.Library.{Library};
 ghost use Rattle.stream_cli.specs.Loading.{IsFetched, Opens};
@@ -13,10 +12,10 @@ ghost use Rattle.stream_cli.specs.declared.cause.Cause.TheVariants.{Memory};
 
 use crate::cause::Cause;
 use bytes::Bytes;
-use doc_store::{Added, DOCUMENT_LIMIT, DocState, DocStore};
+use doc_store::{Added, DOCUMENT_LIMIT, DocState, DocStore, is_document_kind};
 use source_port::Source;
 use std::alloc::Global;
-use tile_types::{Key, Kind};
+use tile_types::Key;
 use tile_uri::Address;
 
 /// Fetches the root document and opens a store of it, or answers what the run ends with.
@@ -92,7 +91,7 @@ fn load<S: Source>(
         (source_run S.library S.faults S.fetches source.old source.new)) }
     ensures library { S.library source.new ≡ S.library source.old }
 {
-    if key.kind != Kind::Tileset || store.state_of(key) != DocState::NotLoaded {
+    if !is_document_kind(key.kind) || store.state_of(key) != DocState::NotLoaded {
         return Ok(());
     }
     let Ok(key) = key.copy(alloc) else {
@@ -116,7 +115,7 @@ fn load<S: Source>(
 
 /// Keeps the bytes of a document, or marks it as absent where the store has no room for them.
 fn keep(alloc: Global, key: Key, bytes: Vec<u8>, store: &mut DocStore) -> Result<(), Cause>
-    requires tileset { key.kind ≡ Tileset }
+    requires document { IsDocumentKind key.kind }
     requires unread { IsTrue (is_unread (docs store.old) key) }
     requires within { length bytes.items ≤ DOCUMENT_LIMIT }
     requires room { 0 < store.old.spare }

@@ -24,7 +24,9 @@ fn error_name(error: DocumentError) -> &'static str
         DocumentError::BothContents { .. } => "BothContents",
         DocumentError::TooManyTiles => "TooManyTiles",
         DocumentError::BadAddress { .. } => "BadAddress",
-        DocumentError::NotYet { .. } => "NotYet",
+        DocumentError::ImplicitLimits { .. } => "ImplicitLimits",
+        DocumentError::ImplicitSphere { .. } => "ImplicitSphere",
+        DocumentError::ImplicitChildren { .. } => "ImplicitChildren",
         DocumentError::OutOfMemory => "OutOfMemory",
     }
 }
@@ -47,6 +49,11 @@ fn field_name(field: Field) -> &'static str
         Field::Transform => "Transform",
         Field::Content => "Content",
         Field::Uri => "Uri",
+        Field::ImplicitTiling => "ImplicitTiling",
+        Field::Scheme => "Scheme",
+        Field::SubtreeLevels => "SubtreeLevels",
+        Field::AvailableLevels => "AvailableLevels",
+        Field::Subtrees => "Subtrees",
         Field::Children => "Children",
     }
 }
@@ -77,7 +84,9 @@ fn tile_of(error: DocumentError) -> Option<u32>
         | DocumentError::RefineWord { tile }
         | DocumentError::BothContents { tile }
         | DocumentError::BadAddress { tile }
-        | DocumentError::NotYet { tile } => Some(tile),
+        | DocumentError::ImplicitLimits { tile }
+        | DocumentError::ImplicitSphere { tile }
+        | DocumentError::ImplicitChildren { tile } => Some(tile),
         DocumentError::NotJson
         | DocumentError::Version
         | DocumentError::ExtensionRequired

@@ -4,6 +4,7 @@
 mod contents;
 mod cut;
 mod edges;
+mod implicit;
 mod loading;
 mod tiles;
 mod words;

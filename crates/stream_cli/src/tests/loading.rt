@@ -114,10 +114,10 @@ static ROWS: [Row; 11] = [
         ..PLAIN
     },
     Row {
-        name: "implicit tiling",
+        name: "implicit tiling without a scheme",
         files: &IMPLICIT,
         status: 2,
-        fault: "fault 2 document NotYet - 1\n",
+        fault: "fault 2 document MissingField Scheme 1\n",
         ..PLAIN
     },
     Row {

@@ -6,8 +6,9 @@ use Rattle.stream_cli.proofs.Loads.{asks_absent, asks_weaker, loads_nothing, loa
 use Rattle.stream_cli.proofs.Refusals.{load_absent, load_stops, memory_stops}
 use Rattle.stream_cli.proofs.loading.load.Goals as goal
 
-pub returns-then-ne-clause-loads : goal.returns-then-ne-clause-loads
-returns-then-ne-clause-loads g c =
+pub returns-then-not-is_document_kind-clause-loads :
+    goal.returns-then-not-is_document_kind-clause-loads
+returns-then-not-is_document_kind-clause-loads g c =
     let side = side_of g.S.LibraryName.library g.S.Source.faults g.S.Source.fetches in
     loads_nothing (λ k. k ≡ c.args.key.now) (side c.args.source.now) c.args.store.now
 
