@@ -2,7 +2,7 @@
 use Rattle.std.proofs.Common.{◌≡◌, ℕ, suc, ◌+◌, ◌-◌, ◌<◌, ◌≤◌, List, [], ◌∷◌, ◌++◌, length, take, drop, Bool, true, false, Option, Some, None, refl, sym, subst, ap, ◌∙◌, arith, length-drop}
 use Rattle.std.specs.Str.{IsUtf8}
 use Rattle.std.specs.Char.{encode_utf8}
-use Rattle.json_decimal.specs.Ascii.{quotation_mark, colon}
+use Rattle.json_decimal.specs.Ascii.{quotation_mark}
 use Rattle.json_decimal.specs.JsonValue.{JsonValue, number, words}
 use Rattle.json_decimal.specs.Scan.{◌>>=◌, Fails, skip, after, after_byte}
 use Rattle.json_decimal.specs.Numbers.{after_number, number_at}

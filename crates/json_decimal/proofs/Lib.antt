@@ -34,3 +34,6 @@ pub mod Built
 pub mod NumberLaw
 pub mod DecimalLaw
 pub mod Wholes
+pub mod Printing
+pub mod Escaping
+pub mod Slices

@@ -1,14 +1,12 @@
 -- What the entries of a value give, part by part.
-use Rattle.std.proofs.Common.{◌≡◌, ℕ, zero, suc, ◌+◌, ◌-◌, min, ◌≤◌, List, [], ◌∷◌, length, take, drop, Option, Some, None, refl, sym, subst, ap, ◌∙◌, arith, length-drop}
+use Rattle.std.proofs.Common.{◌≡◌, ℕ, zero, suc, ◌+◌, ◌-◌, min, ◌≤◌, List, [], ◌∷◌, length, take, drop, Some, None, refl, sym, subst, ap, ◌∙◌, arith, length-drop}
 use Rattle.std.proofs.lemmas.List.{length-take}
 use Rattle.std.proofs.Common.{inl, inr}
 use Rattle.std.proofs.lemmas.Bool.Decides.{leb_tells}
 use Rattle.json_decimal.specs.JsonValue.{JsonValue, list_of-values, pairs_of-pairs}
-use Rattle.json_decimal.specs.Scan.{◌>>=◌}
-use Rattle.json_decimal.specs.Numbers.{after_number}
 use Rattle.json_decimal.specs.Handles.{split_name}
 use Rattle.json_decimal.specs.Parts.{split_first, form_of, items_of, members_of}
-use Rattle.json_decimal.specs.Entries.{words_of, read_or_none, number_from, paired, form_from, value_as, value_from, inside, values_on, values_inside, value_on, spelled_at}
+use Rattle.json_decimal.specs.Entries.{words_of, paired, form_from, value_as, value_from, inside, values_on, values_inside, value_on, spelled_at}
 use Rattle.json_decimal.specs.declared.entry.Entry.{Entry}
 use Rattle.json_decimal.specs.declared.form.JsonForm.{JsonForm}
 use Rattle.json_decimal.specs.declared.form.JsonForm.TheVariants as forms

@@ -1,5 +1,5 @@
 -- How the digits of a decimal and its exponent tell whether its value is whole, and what it is.
-use Rattle.std.proofs.Common.{◌≡◌, ℕ, zero, suc, ◌+◌, ◌-◌, ◌*◌, ◌/◌, ◌%◌, ◌^◌, ◌<◌, ◌≤◌, ◌==◌, min}
+use Rattle.std.proofs.Common.{◌≡◌, ℕ, ℤ, zero, suc, ◌+◌, ◌-◌, ◌*◌, ◌/◌, ◌%◌, ◌^◌, ◌<◌, ◌≤◌, ◌==◌, min}
 use Rattle.std.proofs.Common.{Bool, true, false, cond, List, sym, refl, ap, ◌∙◌, subst, ⊎_elim}
 use Rattle.std.proofs.Common.{arith, length, lit<, get_or, take, take_all, Option, Some, None, ◌&&◌}
 use Rattle.std.proofs.Common.{take-append-drop, drop, length-take}
@@ -25,7 +25,7 @@ use Rattle.fixed_geometry.proofs.Decimals.{clamped_mul, digit_most, next_digit_y
 use Rattle.fixed_geometry.proofs.Decimals.{spelled_lt}
 use Rattle.json_decimal.specs.WholeSizes.{exact_quotient}
 use Rattle.json_decimal.specs.declared.whole.Whole.TheVariants.{Is, Beyond}
-use Rattle.json_decimal.specs.WholeNumbers.{as_told, whole_value}
+use Rattle.json_decimal.specs.WholeNumbers.{as_told, clamped, whole_value}
 
 -- ---- quotients with nothing left over
 
@@ -120,56 +120,56 @@ number_moved true n w f e small =
     ap (λ x. exact_quotient (n * 10 ^ (w - e - (w + f))) (10 ^ x)) (omega arith))
     (cases_lt w e)
 
--- ---- what is clamped to 64 bits
+-- ---- what is clamped to 128 bits
 
--- so many zeros are more than 64 bits hold
-many_zeros : (n a : ℕ) → 0 < n → 20 ≤ a → min (n * 10 ^ a) (2 ^ 64 - 1) ≡ 2 ^ 64 - 1
+-- so many zeros are more than 128 bits hold
+many_zeros : (n a : ℕ) → 0 < n → 39 ≤ a → min (n * 10 ^ a) (2 ^ 128 - 1) ≡ 2 ^ 128 - 1
 many_zeros n a h more =
-    let power : 10 ^ 20 ≤ 10 ^ a = pow-le-pow_right (lit< tt) more in
+    let power : 10 ^ 39 ≤ 10 ^ a = pow-le-pow_right (lit< tt) more in
     let some : 1 * 10 ^ a ≤ n * 10 ^ a = mul-le-mul_right (10 ^ a) h in
     omega arith
 
-as_many_zeros : (n a b : ℕ) → 20 ≤ a → 20 ≤ b
-    → min (n * 10 ^ a) (2 ^ 64 - 1) ≡ min (n * 10 ^ b) (2 ^ 64 - 1)
+as_many_zeros : (n a b : ℕ) → 39 ≤ a → 39 ≤ b
+    → min (n * 10 ^ a) (2 ^ 128 - 1) ≡ min (n * 10 ^ b) (2 ^ 128 - 1)
 as_many_zeros zero a b h g = rw (zero-mul (10 ^ a), zero-mul (10 ^ b))
 as_many_zeros (suc n) a b h g =
     many_zeros (suc n) a (omega arith) h ∙ sym (many_zeros (suc n) b (omega arith) g)
 
 pub zeros_clamped : (v z : ℕ)
-    → min (v * min (10 ^ min z 20) (2 ^ 64 - 1)) (2 ^ 64 - 1) ≡ min (v * 10 ^ z) (2 ^ 64 - 1)
-zeros_clamped zero z = rw (zero-mul (10 ^ z), zero-mul (min (10 ^ min z 20) (2 ^ 64 - 1)))
+    → min (v * min (10 ^ min z 39) (2 ^ 128 - 1)) (2 ^ 128 - 1) ≡ min (v * 10 ^ z) (2 ^ 128 - 1)
+zeros_clamped zero z = rw (zero-mul (10 ^ z), zero-mul (min (10 ^ min z 39) (2 ^ 128 - 1)))
 zeros_clamped (suc v) z =
     let w = suc v in
-    let turned : w * min (10 ^ min z 20) (2 ^ 64 - 1) ≡ min (10 ^ min z 20) (2 ^ 64 - 1) * w =
-    mul_comm w (min (10 ^ min z 20) (2 ^ 64 - 1)) in
-    ap (λ x. min x (2 ^ 64 - 1)) turned
-    ∙ (clamped_mul (10 ^ min z 20) w (2 ^ 64 - 1) (omega arith)
-    ∙ (ap (λ x. min x (2 ^ 64 - 1)) (mul_comm (10 ^ min z 20) w)
+    let turned : w * min (10 ^ min z 39) (2 ^ 128 - 1) ≡ min (10 ^ min z 39) (2 ^ 128 - 1) * w =
+    mul_comm w (min (10 ^ min z 39) (2 ^ 128 - 1)) in
+    ap (λ x. min x (2 ^ 128 - 1)) turned
+    ∙ (clamped_mul (10 ^ min z 39) w (2 ^ 128 - 1) (omega arith)
+    ∙ (ap (λ x. min x (2 ^ 128 - 1)) (mul_comm (10 ^ min z 39) w)
     ∙ ⊎_elim
-    (λ (h : z < 20). let e : min z 20 ≡ z = omega arith in
-    ap (λ x. min (w * 10 ^ x) (2 ^ 64 - 1)) e)
-    (λ (h : 20 ≤ z). as_many_zeros w (min z 20) z (omega arith) h)
-    (cases_lt z 20)))
+    (λ (h : z < 39). let e : min z 39 ≡ z = omega arith in
+    ap (λ x. min (w * 10 ^ x) (2 ^ 128 - 1)) e)
+    (λ (h : 39 ≤ z). as_many_zeros w (min z 39) z (omega arith) h)
+    (cases_lt z 39)))
 
 -- so many places are more than there are digits
 pub places_clamped : (n count places : ℕ) → count < 2 ^ 63
-    → option_map (λ x. min x (2 ^ 64 - 1)) (number_at n count (min places (2 ^ 64 - 1)))
-    ≡ option_map (λ x. min x (2 ^ 64 - 1)) (number_at n count places)
+    → option_map (λ x. min x (2 ^ 128 - 1)) (number_at n count (min places (2 ^ 64 - 1)))
+    ≡ option_map (λ x. min x (2 ^ 128 - 1)) (number_at n count places)
 places_clamped n count places short = ⊎_elim
     (λ (h : places < 2 ^ 64). let e : min places (2 ^ 64 - 1) ≡ places = omega arith in
-    ap (λ x. option_map (λ y. min y (2 ^ 64 - 1)) (number_at n count x)) e)
+    ap (λ x. option_map (λ y. min y (2 ^ 128 - 1)) (number_at n count x)) e)
     (λ (h : 2 ^ 64 ≤ places).
     let most = min places (2 ^ 64 - 1) in
     let none : count - most ≡ 0 = omega arith in
     let none' : count - places ≡ 0 = omega arith in
     let same = as_many_zeros n (most - count) (places - count) (omega arith) (omega arith) in
-    ap (λ x. option_map (λ y. min y (2 ^ 64 - 1))
+    ap (λ x. option_map (λ y. min y (2 ^ 128 - 1))
     (exact_quotient (n * 10 ^ (most - count)) (10 ^ x))) none
-    ∙ (ap (λ x. option_map (λ y. min y (2 ^ 64 - 1)) x) (exact_one (n * 10 ^ (most - count)))
+    ∙ (ap (λ x. option_map (λ y. min y (2 ^ 128 - 1)) x) (exact_one (n * 10 ^ (most - count)))
     ∙ (ap Some same
-    ∙ (sym (ap (λ x. option_map (λ y. min y (2 ^ 64 - 1)) x)
+    ∙ (sym (ap (λ x. option_map (λ y. min y (2 ^ 128 - 1)) x)
     (exact_one (n * 10 ^ (places - count))))
-    ∙ ap (λ x. option_map (λ y. min y (2 ^ 64 - 1))
+    ∙ ap (λ x. option_map (λ y. min y (2 ^ 128 - 1))
     (exact_quotient (n * 10 ^ (places - count)) (10 ^ x))) (sym none')))))
     (cases_lt places (2 ^ 64))
 
@@ -325,15 +325,29 @@ told_beyond negative n h =
     ap (λ q. cond q (Is (with_sign negative n)) Beyond) past
 
 -- clamped or not, it is told in the same way
-told_clamped : (negative : Bool) (n : ℕ)
-    → as_told (with_sign negative (min n (2 ^ 64 - 1))) ≡ as_told (with_sign negative n)
+pub told_clamped : (negative : Bool) (n : ℕ)
+    → as_told (with_sign negative (min n (2 ^ 128 - 1))) ≡ as_told (with_sign negative n)
 told_clamped negative n = ⊎_elim
-    (λ (h : n < 2 ^ 64). let e : min n (2 ^ 64 - 1) ≡ n = omega arith in
+    (λ (h : n < 2 ^ 128). let e : min n (2 ^ 128 - 1) ≡ n = omega arith in
     ap (λ x. as_told (with_sign negative x)) e)
-    (λ (h : 2 ^ 64 ≤ n).
-    told_beyond negative (min n (2 ^ 64 - 1)) (omega arith)
+    (λ (h : 2 ^ 128 ≤ n).
+    told_beyond negative (min n (2 ^ 128 - 1)) (omega arith)
     ∙ sym (told_beyond negative n (omega arith)))
-    (cases_lt n (2 ^ 64))
+    (cases_lt n (2 ^ 128))
+
+pub clamped_sign : (negative : Bool) (n : ℕ)
+    → clamped (with_sign negative n) ≡ with_sign negative (min n (2 ^ 127 - 1))
+clamped_sign false n = refl
+clamped_sign true zero = refl
+clamped_sign true (suc n) = refl
+
+-- so it is where it is clamped again
+pub clamped_again : (negative : Bool) (n : ℕ)
+    → clamped (with_sign negative (min n (2 ^ 128 - 1))) ≡ clamped (with_sign negative n)
+clamped_again negative n =
+    let same : min (min n (2 ^ 128 - 1)) (2 ^ 127 - 1) ≡ min n (2 ^ 127 - 1) = omega arith in
+    clamped_sign negative (min n (2 ^ 128 - 1))
+    ∙ (ap (with_sign negative) same ∙ sym (clamped_sign negative n))
 
 exact_value : (negative : Bool) (n m d : ℕ) (q : Bool) → m ≡ n → 0 < d → (n % d == 0) ≡ q
     → cond q (Some (with_sign negative (half_size m d))) None
@@ -343,61 +357,64 @@ exact_value negative n m d true e h t =
     ∙ ap (λ x. Some (with_sign negative x)) (half_exact n d h (grind (arith, nat_tests)))
 exact_value negative n m d false e h t = refl
 
-all_told : (negative : Bool) (o : Option ℕ)
-    → option_map (λ n. as_told (with_sign negative n)) (option_map (λ n. min n (2 ^ 64 - 1)) o)
-    ≡ option_map as_told (option_map (with_sign negative) o)
-all_told negative None = refl
-all_told negative (Some n) = ap Some (told_clamped negative n)
-
 digits_split : (i : ℕ) (t : List ℕ)
     → digit_count t ≡ digit_count (take i t) + digit_count (drop i t)
 digits_split i t = ap digit_count (sym (take-append-drop i t))
     ∙ sum_by-append (λ x. cond (is_ascii_digit x) 1 0) (take i t) (drop i t)
 
--- what the code answers is the value, where it is whole
-pub whole_is : (t m x : List ℕ) (places : ℕ) (size : Option ℕ) → length t < 2 ^ 63
-    → m ≡ mantissa t → x ≡ exponent t
-    → places
-    ≡ min (places_at (has_minus x) (digit_count (before_first is_point m)) (digits_value x))
-    (2 ^ 64 - 1)
-    → size
-    ≡ option_map (λ n. min n (2 ^ 64 - 1)) (number_at (digits_value m) (digit_count m) places)
-    → option_map (λ n. as_told (with_sign (has_minus m) n)) size
-    ≡ option_map as_told (whole_value t)
-whole_is t m x places size short is_mantissa is_exponent is_places is_size =
-    let n = digits_value (mantissa t) in
-    let count = digit_count (mantissa t) in
-    let w = whole_places t in
-    let f = fraction_places t in
-    let e = digits_value (exponent t) in
-    let divides = has_minus (exponent t) in
-    let negative = has_minus (mantissa t) in
-    let split : count ≡ w + f = digits_split (position_or_len is_point (mantissa t)) (mantissa t) in
-    let small : n < 10 ^ (w + f) = subst (λ y. n < 10 ^ y) split (spelled_lt (mantissa t)) in
-    let few : count ≤ length (mantissa t) = count_by-le-length is_ascii_digit (mantissa t) in
-    let prefix : length (mantissa t) ≤ length t =
-    omega (arith, length-take (position_or_len is_exponent_mark t) t) in
-    let top = n * 10 ^ positive_exponent t in
-    let under = 10 ^ (f + negative_exponent t) in
-    let value : option_map (with_sign negative) (exact_quotient top under) ≡ whole_value t =
-    sym (exact_value negative top (n * 10 ^ (0 + positive_exponent t)) under (top % under == 0)
-    (ap (λ y. n * 10 ^ y) (omega arith)) (one-le-pow (f + negative_exponent t) 10 (lit< tt)) refl) in
-    let moved : exact_quotient top under ≡ number_at n (w + f) (places_at divides w e) =
-    number_moved divides n w f e small in
-    let told = λ (o : Option ℕ). option_map (λ y. as_told (with_sign negative y)) o in
-    let clamped = λ (o : Option ℕ). option_map (λ y. min y (2 ^ 64 - 1)) o in
-    let keep : places ≡ min (places_at divides w e) (2 ^ 64 - 1) =
-    is_places
-    ∙ (ap (λ y. min (places_at (has_minus x) (digit_count (before_first is_point y))
-    (digits_value x)) (2 ^ 64 - 1)) is_mantissa
-    ∙ ap (λ y. min (places_at (has_minus y) w (digits_value y)) (2 ^ 64 - 1)) is_exponent) in
-    let known : size ≡ clamped (number_at n count places) =
-    is_size ∙ ap (λ y. clamped (number_at (digits_value y) (digit_count y) places)) is_mantissa in
-    ap (λ y. option_map (λ z. as_told (with_sign (has_minus y) z)) size) is_mantissa
-    ∙ (ap told known
-    ∙ (ap (λ y. told (clamped (number_at n count y))) keep
-    ∙ (ap told (places_clamped n count (places_at divides w e) (omega arith))
-    ∙ (ap (λ y. told (clamped (number_at n y (places_at divides w e)))) split
-    ∙ (ap (λ y. told (clamped y)) (sym moved)
-    ∙ (all_told negative (exact_quotient top under)
-    ∙ ap (option_map as_told) value))))))
+module _ {T : Type 0} (told_of : ℤ → T)
+    (same : (negative : Bool) (n : ℕ)
+    → told_of (with_sign negative (min n (2 ^ 128 - 1))) ≡ told_of (with_sign negative n)) where
+  all_told : (negative : Bool) (o : Option ℕ)
+      → option_map (λ n. told_of (with_sign negative n)) (option_map (λ n. min n (2 ^ 128 - 1)) o)
+      ≡ option_map told_of (option_map (with_sign negative) o)
+  all_told negative None = refl
+  all_told negative (Some n) = ap Some (same negative n)
+
+  -- what the code answers is the value, where it is whole, however it is told
+  pub whole_is : (t m x : List ℕ) (places : ℕ) (size : Option ℕ) → length t < 2 ^ 63
+      → m ≡ mantissa t → x ≡ exponent t
+      → places
+      ≡ min (places_at (has_minus x) (digit_count (before_first is_point m)) (digits_value x))
+      (2 ^ 64 - 1)
+      → size
+      ≡ option_map (λ n. min n (2 ^ 128 - 1)) (number_at (digits_value m) (digit_count m) places)
+      → option_map (λ n. told_of (with_sign (has_minus m) n)) size
+      ≡ option_map told_of (whole_value t)
+  whole_is t m x places size short is_mantissa is_exponent is_places is_size =
+      let n = digits_value (mantissa t) in
+      let count = digit_count (mantissa t) in
+      let w = whole_places t in
+      let f = fraction_places t in
+      let e = digits_value (exponent t) in
+      let divides = has_minus (exponent t) in
+      let negative = has_minus (mantissa t) in
+      let split : count ≡ w + f = digits_split (position_or_len is_point (mantissa t)) (mantissa t) in
+      let small : n < 10 ^ (w + f) = subst (λ y. n < 10 ^ y) split (spelled_lt (mantissa t)) in
+      let few : count ≤ length (mantissa t) = count_by-le-length is_ascii_digit (mantissa t) in
+      let prefix : length (mantissa t) ≤ length t =
+      omega (arith, length-take (position_or_len is_exponent_mark t) t) in
+      let top = n * 10 ^ positive_exponent t in
+      let under = 10 ^ (f + negative_exponent t) in
+      let value : option_map (with_sign negative) (exact_quotient top under) ≡ whole_value t =
+      sym (exact_value negative top (n * 10 ^ (0 + positive_exponent t)) under (top % under == 0)
+      (ap (λ y. n * 10 ^ y) (omega arith)) (one-le-pow (f + negative_exponent t) 10 (lit< tt)) refl) in
+      let moved : exact_quotient top under ≡ number_at n (w + f) (places_at divides w e) =
+      number_moved divides n w f e small in
+      let told = λ (o : Option ℕ). option_map (λ y. told_of (with_sign negative y)) o in
+      let clamped = λ (o : Option ℕ). option_map (λ y. min y (2 ^ 128 - 1)) o in
+      let keep : places ≡ min (places_at divides w e) (2 ^ 64 - 1) =
+      is_places
+      ∙ (ap (λ y. min (places_at (has_minus x) (digit_count (before_first is_point y))
+      (digits_value x)) (2 ^ 64 - 1)) is_mantissa
+      ∙ ap (λ y. min (places_at (has_minus y) w (digits_value y)) (2 ^ 64 - 1)) is_exponent) in
+      let known : size ≡ clamped (number_at n count places) =
+      is_size ∙ ap (λ y. clamped (number_at (digits_value y) (digit_count y) places)) is_mantissa in
+      ap (λ y. option_map (λ z. told_of (with_sign (has_minus y) z)) size) is_mantissa
+      ∙ (ap told known
+      ∙ (ap (λ y. told (clamped (number_at n count y))) keep
+      ∙ (ap told (places_clamped n count (places_at divides w e) (omega arith))
+      ∙ (ap (λ y. told (clamped (number_at n y (places_at divides w e)))) split
+      ∙ (ap (λ y. told (clamped y)) (sym moved)
+      ∙ (all_told negative (exact_quotient top under)
+      ∙ ap (option_map told_of) value))))))

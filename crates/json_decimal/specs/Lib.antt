@@ -4,6 +4,7 @@ pub mod JsonValue
 pub mod View
 pub mod Grammar
 pub mod WellFormed
+pub mod Printed
 pub mod Scan
 pub mod Numbers
 pub mod Strings

@@ -23,6 +23,8 @@ mod object;
 mod parser;
 mod places;
 mod primitives;
+mod printer;
+mod quoting;
 mod scan;
 mod short_numbers;
 mod strings;
@@ -37,11 +39,13 @@ pub use json_ref::JsonRef;
 pub use json_string::{EscapedString, JsonString};
 pub use json_text::JsonText;
 pub use laws::numbers_are_decimals;
-pub use limits::{MAX_LENGTH, MAX_NESTING, WHOLE_LIMIT};
+pub use limits::{MAX_LENGTH, MAX_NESTING, WHOLE_LIMIT, WIDE_LIMIT};
 pub use list::JsonList;
 pub use object::JsonObject;
 pub use parser::{one_value, parse, value_is_spelled};
-pub use whole::{Whole, whole_of};
+pub use printer::{print, printed_is_read};
+pub use quoting::print_text;
+pub use whole::{Whole, clamped_whole_of, whole_of};
 
 #[cfg(test)]
 mod tests;

@@ -6,8 +6,8 @@ ghost use Rattle.fixed_geometry.specs.Decimal as decimal;
 ghost use Rattle.fixed_geometry.specs.Decimal.{is_exponent_mark, is_point, digit_count, digits_value};
 ghost use Rattle.json_decimal.specs.WholeSizes.{exact_quotient};
 
-/// So many zeros behind a digit are more than 64 bits hold.
-const MOST_ZEROS: u64 = 20;
+/// So many zeros behind a digit are more than 128 bits hold.
+const MOST_ZEROS: u64 = 39;
 
 /// The mantissa, and the exponent from its mark on.
 pub fn mantissa_and_exponent(text: &[u8]) -> (&[u8], &[u8])
@@ -82,20 +82,20 @@ fn with_digit(value: u64, digit: u8) -> u64
 }
 
 /// The number that the first `places` digits of a mantissa spell, with zeros behind them where there
-/// are fewer, clamped to 64 bits; or none where a digit behind them is not zero.
-pub fn size_of(mantissa: &[u8], places: u64) -> Option<u64>
+/// are fewer, clamped to 128 bits; or none where a digit behind them is not zero.
+pub fn size_of(mantissa: &[u8], places: u64) -> Option<u128>
     ensures { let count = digit_count mantissa.now in
         let size = exact_quotient (digits_value mantissa.now * 10 ^ (places - count))
         (10 ^ (count - places)) in
-        result ≡ option_map (λ n. min n u64.MAX) size }
+        result ≡ option_map (λ n. min n u128.MAX) size }
 {
     let mut left = places;
-    let mut value: u64 = 0;
+    let mut value: u128 = 0;
     let mut is_whole = true;
     for byte in mantissa {
         if byte.is_ascii_digit() {
             if left > 0 {
-                value = with_digit(value, *byte - b'0');
+                value = with_wide_digit(value, *byte - b'0');
                 left -= 1;
             } else {
                 is_whole &= *byte == b'0';
@@ -109,9 +109,16 @@ pub fn size_of(mantissa: &[u8], places: u64) -> Option<u64>
     }
 }
 
-/// `value` with `zeros` zeros behind it, clamped to 64 bits.
-fn with_zeros(value: u64, zeros: u64) -> u64
-    ensures { result ≡ min (value * 10 ^ zeros) u64.MAX }
+/// The number with one more digit behind it, clamped to 128 bits.
+fn with_wide_digit(value: u128, digit: u8) -> u128
+    ensures { result ≡ min (10 * value + digit) u128.MAX }
 {
-    value.saturating_mul(10u64.saturating_pow(zeros.min(MOST_ZEROS) as u32))
+    value.saturating_mul(10).saturating_add(u128::from(digit))
+}
+
+/// `value` with `zeros` zeros behind it, clamped to 128 bits.
+fn with_zeros(value: u128, zeros: u64) -> u128
+    ensures { result ≡ min (value * 10 ^ zeros) u128.MAX }
+{
+    value.saturating_mul(10u128.saturating_pow(zeros.min(MOST_ZEROS) as u32))
 }

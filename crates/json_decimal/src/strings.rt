@@ -14,7 +14,7 @@ use std::alloc::{AllocError, Global};
 use tile_types::Text;
 
 /// How many bytes stand for themselves, up to the first that does not.
-fn plain_len(bytes: &[u8]) -> usize
+pub fn plain_len(bytes: &[u8]) -> usize
     ensures value { result ≡ plain_len bytes.now }
     ensures within { result ≤ length bytes.now }
 {

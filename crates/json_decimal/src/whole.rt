@@ -1,10 +1,10 @@
 //! Numbers whose value is whole.
 
-ghost use Rattle.std.specs.Prelude.{◌≡◌, option_map};
+ghost use Rattle.std.specs.Prelude.{◌≡◌, ◌≤◌, option_map};
 ghost use Rattle.fixed_geometry.specs.Decimal.{with_sign};
-ghost use Rattle.json_decimal.specs.WholeNumbers.{as_told, whole_value};
+ghost use Rattle.json_decimal.specs.WholeNumbers.{as_told, clamped, whole_value};
 
-use crate::limits::WHOLE_LIMIT;
+use crate::limits::{WHOLE_LIMIT, WIDE_LIMIT};
 use crate::places::{has_minus, mantissa_and_exponent, places_before_point, size_of};
 
 /// A number whose value is whole.
@@ -26,11 +26,33 @@ pub fn whole_of(text: &str) -> Option<Whole>
     Some(told(has_minus(mantissa), size))
 }
 
+/// The same value in 128 bits. One whose size is greater than `WIDE_LIMIT` becomes that limit, under
+/// its sign.
+pub fn clamped_whole_of(text: &str) -> Option<i128>
+    ensures { result ≡ option_map clamped (whole_value text.now) }
+{
+    let (mantissa, exponent) = mantissa_and_exponent(text.as_bytes());
+    let size = size_of(mantissa, places_before_point(mantissa, exponent))?;
+    Some(signed(has_minus(mantissa), size.min(WIDE_LIMIT)))
+}
+
 /// The number of this size, below zero where `negative` says so.
-fn told(negative: bool, size: u64) -> Whole
+fn signed(negative: bool, size: u128) -> i128
+    requires { size ≤ WIDE_LIMIT }
+    ensures { result ≡ with_sign negative size }
+{
+    if negative {
+        -(size as i128)
+    } else {
+        size as i128
+    }
+}
+
+/// The number of this size, below zero where `negative` says so.
+fn told(negative: bool, size: u128) -> Whole
     ensures { result ≡ as_told (with_sign negative size) }
 {
-    if size > WHOLE_LIMIT {
+    if size > u128::from(WHOLE_LIMIT) {
         return Whole::Beyond;
     }
     Whole::Is(if negative {

@@ -1,6 +1,6 @@
 //! Numbers whose value is whole, in many spellings, and numbers whose value is not.
 
-use crate::{Whole, whole_of};
+use crate::{WIDE_LIMIT, Whole, clamped_whole_of, whole_of};
 use std::process::Abort;
 
 /// A number's text, and the whole number that it spells, if it spells one.
@@ -82,5 +82,25 @@ static EXPONENTS: [Row; 8] = [
 fn exponents(rt: HostRuntime) {
     for row in EXPONENTS.iter() {
         check_row(&rt, row);
+    }
+}
+
+static WIDE: [(&str, Option<i128>); 7] = [
+    ("18446744073709551615", Some(18_446_744_073_709_551_615)),
+    ("1.8446744073709551616e19", Some(18_446_744_073_709_551_616)),
+    ("-9223372036854775808.0", Some(-9_223_372_036_854_775_808)),
+    (
+        "340282366920938463463374607431768211455",
+        Some(WIDE_LIMIT as i128),
+    ),
+    ("1e999999999999999999999", Some(WIDE_LIMIT as i128)),
+    ("-1e39", Some(-(WIDE_LIMIT as i128))),
+    ("-0.5", None),
+];
+
+#[test]
+fn wide_sizes(rt: HostRuntime) {
+    for (text, whole) in WIDE.iter() {
+        assert_eq!(rt; clamped_whole_of(text), *whole, "of {text}");
     }
 }
