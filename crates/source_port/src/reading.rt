@@ -1,16 +1,19 @@
 //! Reading a file or any other reader whole, within a limit, and what is answered where that fails.
 
-ghost use Rattle.std.specs.Prelude.{◌≡◌, ◌≢◌, ◌<◌, ◌≤◌, ◌↔◌, IfOk, IfSome, length};
+ghost use Rattle.std.specs.Prelude.{◌≡◌, ◌≢◌, ◌<◌, ◌≤◌, Err, IfErr, IfOk, IfSome, Ok, length};
+ghost use Rattle.std.specs.Fs.{IsFile, file_type, metadata_len};
 ghost use Rattle.std.specs.IoError.{error_kind};
+ghost use Rattle.source_port.specs.Opening.{IsOpeningCause, IsReadingCause, RefusesOpening};
 
 use crate::source::FetchError;
 use std::alloc::Global;
-use std::fs::OpenFile;
+use std::fs::Metadata;
 use std::io::{ErrorKind, Read};
 use std::rt::Files;
 use std::{fs, io};
 
-/// The bytes of a regular file, at most `limit` of them.
+/// The bytes of a regular file, at most `limit` of them. What the path names is looked at first,
+/// since a pipe that is opened waits for its other end.
 pub(crate) fn read_file<R: Files>(
     rt: &R,
     alloc: Global,
@@ -19,25 +22,44 @@ pub(crate) fn read_file<R: Files>(
 ) -> Result<Vec<u8>, FetchError>
     ensures { IfOk result (λ bytes. length bytes.items ≤ limit) }
 {
-    let (file, size) = open_regular(rt, path)?;
-    read_within(file, alloc, size, limit)
+    let size = file_size(fs::metadata(rt, path))?;
+    read_opened(fs::open(rt, path), alloc, size, limit)
 }
 
-/// Opens a regular file, and tells its size. Anything else, as a folder, a pipe or a device, is a fault. That
-/// is looked at first, since a pipe that is opened waits for its other end.
-fn open_regular<R: Files>(rt: &R, path: &str) -> Result<(R::File, u64), FetchError>
-    ensures { result ≢ Err FetchError.TooLong }
+/// The size of a regular file of which this is told. Anything else, as a folder, a pipe or a
+/// device, is a fault.
+fn file_size(told: io::Result<Metadata>) -> Result<u64, FetchError>
+    ensures file { IfOk told (λ told. IsFile (file_type told)
+        → result ≡ Ok (metadata_len told)) }
+    ensures other { IfOk told (λ told. ¬ IsFile (file_type told)
+        → result ≡ Err FetchError.Failed) }
+    ensures unknown { IfErr told (λ error. RefusesOpening (error_kind error) result) }
 {
-    let metadata = match fs::metadata(rt, path) {
-        Ok(metadata) => metadata,
-        Err(error) => return Err(open_cause(&error)),
-    };
-    if !metadata.is_file() {
-        return Err(FetchError::Failed);
+    match told {
+        Ok(metadata) if metadata.is_file() => Ok(metadata.len()),
+        Ok(_) => Err(FetchError::Failed),
+        Err(error) => Err(opening_cause(&error)),
     }
-    match fs::open(rt, path) {
-        Ok(file) => Ok((file, metadata.len())),
-        Err(error) => Err(open_cause(&error)),
+}
+
+/// All that a file has which was opened, as `read_within` gives it, or why it wasn't opened.
+pub(crate) fn read_opened<F: Read + Drop>(
+    opened: io::Result<F>,
+    alloc: Global,
+    expected: u64,
+    limit: u32,
+) -> Result<Vec<u8>, FetchError>
+    ensures bytes { IfOk opened (λ file. IfOk result (λ bytes.
+        IfSome (F.remaining file) (λ left. bytes.items ≡ left))) }
+    ensures within { IfOk result (λ bytes. length bytes.items ≤ limit) }
+    ensures too_long { IfOk opened (λ file. result ≡ Err FetchError.TooLong
+        → IfSome (F.remaining file) (λ left. limit < length left)) }
+    ensures not_missing { IfOk opened (λ _. result ≢ Err FetchError.Missing) }
+    ensures refused { IfErr opened (λ error. RefusesOpening (error_kind error) result) }
+{
+    match opened {
+        Ok(file) => read_within(file, alloc, expected, limit),
+        Err(error) => Err(opening_cause(&error)),
     }
 }
 
@@ -63,7 +85,7 @@ pub(crate) fn read_within<R: Read + Drop>(
     };
     let mut front = reader.take(most);
     if let Err(error) = front.read_to_end(&mut bytes) {
-        return Err(read_cause(&error));
+        return Err(reading_cause(&error));
     }
     if bytes.len() > limit as usize {
         return Err(FetchError::TooLong);
@@ -72,11 +94,8 @@ pub(crate) fn read_within<R: Read + Drop>(
 }
 
 /// Why a file isn't opened.
-fn open_cause(error: &io::Error) -> FetchError
-    ensures missing { result ≡ FetchError.Missing ↔ (error_kind error.now ≡ ErrorKind.NotFound) }
-    ensures out_of_memory { result ≡ FetchError.OutOfMemory
-        ↔ (error_kind error.now ≡ ErrorKind.OutOfMemory) }
-    ensures not_too_long { result ≢ FetchError.TooLong }
+fn opening_cause(error: &io::Error) -> FetchError
+    ensures { IsOpeningCause (error_kind error.now) result }
 {
     match error.kind() {
         ErrorKind::NotFound => FetchError::Missing,
@@ -85,12 +104,9 @@ fn open_cause(error: &io::Error) -> FetchError
     }
 }
 
-/// Why an open file isn't read: it is there, whatever the error says.
-fn read_cause(error: &io::Error) -> FetchError
-    ensures out_of_memory { result ≡ FetchError.OutOfMemory
-        ↔ (error_kind error.now ≡ ErrorKind.OutOfMemory) }
-    ensures not_missing { result ≢ FetchError.Missing }
-    ensures not_too_long { result ≢ FetchError.TooLong }
+/// Why an open file isn't read.
+fn reading_cause(error: &io::Error) -> FetchError
+    ensures { IsReadingCause (error_kind error.now) result }
 {
     match error.kind() {
         ErrorKind::OutOfMemory => FetchError::OutOfMemory,
