@@ -3,9 +3,10 @@ use Rattle.std.specs.Prelude.{ℕ, ◌+◌, Option, Some, None, List, [], ◌∷
 use Rattle.tile_types.specs.declared.key.Key.{Key}
 use Rattle.expanded_tree.specs.Facts.{Facts}
 
--- where an implicit tile comes from: the key of its subtree, and the index of its bit there: OGC
--- 22-025r4, "Subtrees"
+-- where an implicit tile comes from: the address of the document that says so, the key of its
+-- subtree, and the index of its bit there: OGC 22-025r4, "Subtrees"
 pub record Origin : Type 0 where
+  pub document : List ℕ
   pub subtree : Key
   pub index : ℕ
 

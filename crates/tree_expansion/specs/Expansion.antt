@@ -122,7 +122,12 @@ place_holder top at = record top.holder { error = error_at top.root at }
 
 abbrev pub place_origin : RootTile → Place → Option Origin
 place_origin top at =
-    option_map (λ key. record { subtree = key; index = number_in_subtree top.root.part at })
+    option_map
+    (λ key. record {
+      document = top.root.base;
+      subtree = key;
+      index = number_in_subtree top.root.part at;
+    })
     (subtree_key top.root at)
 
 -- the tile at a place, with these contents and children
