@@ -4,6 +4,7 @@ use Rattle.std.proofs.Common.{Bor, ℕ, ◌≡◌, Bool, Option, Some, None, Lis
 use Rattle.std.proofs.Common.{refl, sym, ◌∙◌, ap, subst}
 use Rattle.std.specs.List.{AllByRecursion}
 use Rattle.std.specs.Map.{lookup}
+use Rattle.std.specs.Option.{option_and_then}
 use Rattle.std.proofs.lemmas.Option.{slice_get-map}
 use Rattle.tile_types.specs.declared.key.Key.{Key}
 use Rattle.tile_types.specs.declared.key.Kind.TheVariants as kind
@@ -17,7 +18,7 @@ use Rattle.subtree_binary.specs.Subtrees.{HasCounts, SubtreeParts}
 use Rattle.doc_store.specs.Docs.{Docs, as_read, found_in, here_of, lost}
 use Rattle.doc_store.specs.Docs.{subtree_at, subtree_for, tileset_in, tileset_key}
 use Rattle.doc_store.specs.Store.{Stored, docs}
-use Rattle.doc_store.specs.States.{number_in, rows_at, rows_found, schema_of}
+use Rattle.doc_store.specs.States.{number_in, rows_at, rows_found, schema_at, schema_of}
 use Rattle.doc_store.specs.declared.loaded_document.LoadedDocument.{LoadedDocument}
 use Rattle.doc_store.specs.Kept.{Entry, HasCountsOf, IsLoaded, IsNotGone, IsRead, loaded_of}
 use Rattle.doc_store.specs.Kept.{IsNumbered, subtree_kept, tileset_kept}
@@ -93,6 +94,19 @@ module _ (store : Stored) (n : ℕ) (l : LoadedDocument) (is : IsNumbered store 
       ap Some (subst (λ o. IfSome o (λ d. d.schema ≡ schema l.bytes)) (sym copied)
       is.loaded.read.schema)
       ∙ sym (ap (option_map schema_of) is.at)
+
+  pub keyed_schema : (r : Option (Bor Document))
+      → option_map (λ d. d.now) r ≡ tileset_kept l.reading → (address : List ℕ)
+      → option_map (λ l. l.key) (slice_get store.loaded n) ≡ Some (tileset_key address)
+      → IfSome r (λ d. d.now.schema ≡ schema_at (docs store) address)
+  keyed_schema None copied address at = tt
+  keyed_schema (Some d) copied address at =
+      let own : Some is.own ≡ Some (tileset_key address) =
+      sym (ap (option_map (λ l. l.key)) is.at) ∙ at in
+      let loaded : (docs store).loaded (tileset_key address) ≡ Some l.bytes =
+      subst (λ k. (docs store).loaded k ≡ Some l.bytes) (cc) is.loaded.loaded in
+      subst (λ o. IfSome o (λ d. d.schema ≡ schema l.bytes)) (sym copied) is.loaded.read.schema
+      ∙ sym (ap (option_and_then schema) loaded)
 
   pub named_subtree : (r : Option (Bor Subtree))
       → option_map (λ s. s.now) r ≡ subtree_kept l.reading → (key : Key)

@@ -202,6 +202,10 @@ impl DocStore {
             → option_map (λ d. d.now.rows) result ≡ rows_at (docs self.now) address }
         ensures schema { IfSome result
             (λ d. Some d.now.schema ≡ option_map schema_of (slice_get self.now.loaded number)) }
+        ensures schema_at { (address : List ℕ)
+            → option_map (λ l. l.key) (slice_get self.now.loaded number)
+            ≡ Some (tileset_key address)
+            → IfSome result (λ d. d.now.schema ≡ schema_at (docs self.now) address) }
     {
         self.numbered(number)?.reading.tileset()
     }
