@@ -1,0 +1,6 @@
+mod Chains
+mod Effective
+mod Finds
+mod Kept
+mod Seen
+mod Types

@@ -1,0 +1,9 @@
+pub mod Components
+pub mod Schemas
+pub mod Kept
+pub mod Causes
+pub mod Members
+pub mod Seen
+pub mod Enums
+pub mod Classes
+pub mod Reading
