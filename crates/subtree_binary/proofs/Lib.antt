@@ -1,5 +1,5 @@
 mod Chains
-mod Lasts
+pub mod Lasts
 mod Sizes
 mod Counted
 mod Absent

@@ -17,7 +17,7 @@ use json_decimal::JsonRef;
 use std::alloc::Global;
 
 /// The length of buffer 0, which the view has to be one of, and which must not be another file.
-fn internal_length(buffers: &[Buffer], view: View) -> Result<u64, SubtreeError>
+pub fn internal_length(buffers: &[Buffer], view: View) -> Result<u64, SubtreeError>
     ensures { result ≡ spec.internal_length buffers.now view }
 {
     if view.buffer != 0 {
@@ -30,7 +30,7 @@ fn internal_length(buffers: &[Buffer], view: View) -> Result<u64, SubtreeError>
 }
 
 /// The view passes neither the buffer nor the binary chunk, which have so many bytes.
-fn check_range(view: View, buffer: u64, binary: u64) -> Result<(), SubtreeError>
+pub fn check_range(view: View, buffer: u64, binary: u64) -> Result<(), SubtreeError>
     ensures { result ≡ spec.in_range view buffer binary }
 {
     let bytes = buffer.min(binary);

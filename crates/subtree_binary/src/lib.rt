@@ -16,10 +16,16 @@ mod subtree;
 mod subtrees;
 mod views;
 
+pub use bits::{check_range, internal_length};
+pub use buffers::Buffer;
 pub use error::{SubtreeError, SubtreeField};
+pub use members::last;
+pub use naturals::natural;
 pub use reading::read;
+pub use storage::{Storage, read_storage};
 pub use subtree::Subtree;
 pub use subtrees::Subtrees;
+pub use views::View;
 
 #[cfg(test)]
 mod tests;

@@ -2,11 +2,11 @@
 
 ghost use Rattle.std.specs.Prelude.{◌≡◌, ◌<◌, ◌^◌, IfOk, length, option_map, slice_get};
 ghost use Rattle.json_decimal.specs.View.{value_of};
-ghost use Rattle.subtree_binary.specs.Seen.{json_in};
+ghost use Rattle.subtree_binary.specs.Seen.{json_in, or_null};
 
 use avail_bits::Bits;
 use bytes::Bytes;
-use json_decimal::{Json, JsonError, parse};
+use json_decimal::{Json, JsonError, JsonText, parse};
 use std::alloc::{AllocError, Global};
 use std::marker::Model;
 
@@ -109,6 +109,18 @@ impl Subtree {
         match parse(alloc, self.json.as_slice()) {
             Ok(json) => Ok(json),
             Err(JsonError::NotJson) => Ok(Json::Null),
+            Err(JsonError::TooLong) => Err(AllocError),
+            Err(JsonError::OutOfMemory) => Err(AllocError),
+        }
+    }
+
+    /// The JSON chunk as a text that is read anew, or None where it reads as no value.
+    pub fn text(&self, alloc: Global) -> Result<Option<JsonText<'_>>, AllocError>
+        ensures { IfOk result (λ text. or_null text ≡ self.now.json) }
+    {
+        match JsonText::read(alloc, self.json.as_slice()) {
+            Ok(text) => Ok(Some(text)),
+            Err(JsonError::NotJson) => Ok(None),
             Err(JsonError::TooLong) => Err(AllocError),
             Err(JsonError::OutOfMemory) => Err(AllocError),
         }

@@ -1,0 +1,6 @@
+mod EachRow
+mod Chains
+mod Texts
+mod Owned
+mod Found
+mod Whole

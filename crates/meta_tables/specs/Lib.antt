@@ -1,0 +1,13 @@
+pub mod Causes
+pub mod Offsets
+pub mod Boundaries
+pub mod Tables
+pub mod Checks
+pub mod Cells
+pub mod Written
+pub mod Views
+pub mod Columns
+pub mod Reading
+pub mod Rows
+pub mod Seen
+pub mod NamedValues
