@@ -39,8 +39,8 @@ fn push_lines<T: TileTree, H: Holdings>(
     Ok(())
 }
 
-/// The lines of the tiles that are shown.
-fn lines_shown<T: TileTree, H: Holdings>(
+/// The lines of the tiles that these nodes stand for.
+pub fn lines_shown<T: TileTree, H: Holdings>(
     alloc: Global,
     tree: &T,
     holdings: &H,
@@ -105,8 +105,8 @@ pub fn cut<T: TileTree, H: Holdings>(
 
 /// Holdings in which every content that isn't absent is resident.
 #[derive(Drop)]
-struct AllResident<'a, H> {
-    holdings: &'a H,
+pub(crate) struct AllResident<'a, H> {
+    pub(crate) holdings: &'a H,
 }
 
 impl<H: Holdings> Holdings for AllResident<'_, H> {

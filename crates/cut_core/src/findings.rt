@@ -19,6 +19,10 @@ pub struct Visit {
     /// The node by whose volume its distance is measured: itself, or the nearest above it whose
     /// volume is known.
     pub measured_by: Option<Node>,
+    /// The number of its parent among the visited nodes, from 0.
+    pub parent: Option<u32>,
+    /// Whether it is a tile that wants its children.
+    pub wants: bool,
     /// Whether its own contents are kept.
     pub kept: bool,
 }
@@ -34,7 +38,7 @@ pub struct Findings {
 
 impl Findings {
     /// Nothing yet.
-    pub fn new(alloc: Global) -> Findings
+    pub(crate) fn new(alloc: Global) -> Findings
         ensures { found_in result ≡ nothing_found }
     {
         Findings {
@@ -57,7 +61,7 @@ impl Findings {
     }
 
     /// Notes one more visited node.
-    pub fn note(&mut self, visit: Visit) -> Result<(), CutError>
+    pub(crate) fn note(&mut self, visit: Visit) -> Result<(), CutError>
         ensures ok { OnOk result (found_in self.new ≡ with_note (found_in self.old) visit) }
         ensures within { OnOk result (length self.old.visits.items < VISITED_LIMIT) }
         ensures full { VISITED_LIMIT ≤ length self.old.visits.items
@@ -71,7 +75,7 @@ impl Findings {
     }
 
     /// Notes an earlier node again.
-    pub fn note_again(&mut self, at: usize, visit: Visit)
+    pub(crate) fn note_again(&mut self, at: usize, visit: Visit)
         requires { at < length self.old.visits.items }
         ensures { found_in self.new ≡ with_note_at (found_in self.old) at visit }
     {
@@ -79,7 +83,7 @@ impl Findings {
     }
 
     /// Shows the node, if its own contents are resident.
-    pub fn show(&mut self, node: Node, own: Own) -> Result<(), AllocError>
+    pub(crate) fn show(&mut self, node: Node, own: Own) -> Result<(), AllocError>
         ensures { let shown = if own.resident then node ∷ [] else [] in
             OnOk result (found_in self.new ≡ with_shown (found_in self.old) shown) }
     {

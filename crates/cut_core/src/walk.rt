@@ -4,9 +4,11 @@ ghost use Rattle.std.specs.Prelude.{◌≡◌, ◌<◌, ◌≤◌, ◌∷◌, �
 ghost use Rattle.std.specs.Prelude.{Some, if◌then◌else◌, length, take};
 ghost use Rattle.std.specs.List.{list_all};
 ghost use Rattle.expanded_tree.specs.Standing.{Keeps};
-ghost use Rattle.expanded_tree.specs.Tree.{children_of, facts_of};
+ghost use Rattle.expanded_tree.specs.Tree.{children_of, facts_of, from_list};
 ghost use Rattle.cut_core.specs.Cut.{from_root, has_own, is_ready, lacks_own, shown_tiles};
 ghost use Rattle.cut_core.specs.Distances.{measured_visits};
+ghost use Rattle.cut_core.specs.Linked.{all_linked_nodes, linked_nodes};
+ghost use Rattle.cut_core.specs.Links.{LinksMore};
 ghost use Rattle.cut_core.specs.Opened.{OpensEach};
 ghost use Rattle.cut_core.specs.Visits.{keeps_own, visits};
 ghost use Rattle.cut_core.specs.Walk.{IsAnyValid, IsWanting, NotesMore, ShowsMore};
@@ -36,6 +38,8 @@ pub struct Context<'a, H> {
 #[derive(Clone, Copy)]
 struct WantingTile {
     node: Node,
+    /// Its number among the visited nodes.
+    number: u32,
     /// The node by whose volume those of its children are measured that have none.
     measured_by: Option<Node>,
     refine: Refine,
@@ -137,6 +141,7 @@ fn walk_node<T: TileTree, H: Holdings>(
     context: &Context<'_, H>,
     node: Node,
     above: Option<Node>,
+    parent: Option<u32>,
     found: &mut Findings,
 ) -> Result<bool, CutError>
     requires valid { IsTrue ((T.standing tree.old).is_valid node) }
@@ -149,6 +154,10 @@ fn walk_node<T: TileTree, H: Holdings>(
     ensures walk { WalksNode result (T.standing tree.old) (T.standing tree.new)
         context.now.view.now (H.holdings context.now.holdings.now)
         above node (found_in found.old) (found_in found.new) }
+    ensures links { let t = (T.standing tree.old).node_tree node in
+        let at = length found.old.visits.items in
+        OnOk result (LinksMore context.now.view.now found.old.visits.items found.new.visits.items
+        (linked_nodes context.now.view.now parent at t)) }
 {
     match kind_of(tree, context.view, node) {
         NodeKind::Culled => Ok(true),
@@ -157,6 +166,8 @@ fn walk_node<T: TileTree, H: Holdings>(
             found.note(Visit {
                 node,
                 measured_by,
+                parent,
+                wants: false,
                 kept: false,
             })?;
             Ok(false)
@@ -173,6 +184,8 @@ fn walk_node<T: TileTree, H: Holdings>(
             found.note(Visit {
                 node,
                 measured_by,
+                parent,
+                wants: false,
                 kept: true,
             })?;
             let count = open_wanted(context.alloc, tree, node, may_want)?;
@@ -181,6 +194,7 @@ fn walk_node<T: TileTree, H: Holdings>(
             }
             let tile = WantingTile {
                 node,
+                number: at as u32,
                 measured_by,
                 refine,
                 count,
@@ -191,6 +205,8 @@ fn walk_node<T: TileTree, H: Holdings>(
                 Visit {
                     node,
                     measured_by,
+                    parent,
+                    wants: true,
                     kept: state.kept,
                 },
             );
@@ -224,6 +240,10 @@ fn walk_tile<T: TileTree, H: Holdings>(
     ensures walk { WalksTile result (T.standing tree.old) (T.standing tree.new)
         context.now.view.now (H.holdings context.now.holdings.now)
         tile.measured_by tile.node (found_in found.old) (found_in found.new) }
+    ensures links { let children = children_of ((T.standing tree.old).node_tree tile.node) in
+        let at = length found.old.visits.items in
+        OnOk result (LinksMore context.now.view.now found.old.visits.items found.new.visits.items
+        (all_linked_nodes context.now.view.now (Some tile.number) at (from_list children))) }
 {
     match tile.refine {
         Refine::Add => {
@@ -271,11 +291,22 @@ fn walk_children<T: TileTree, H: Holdings>(
     ensures walk { WalksChildren result (T.standing tree.old) (T.standing tree.new)
         context.now.view.now (H.holdings context.now.holdings.now)
         tile.measured_by tile.node (found_in found.old) (found_in found.new) }
+    ensures links { let children = children_of ((T.standing tree.old).node_tree tile.node) in
+        let at = length found.old.visits.items in
+        OnOk result (LinksMore context.now.view.now found.old.visits.items found.new.visits.items
+        (all_linked_nodes context.now.view.now (Some tile.number) at (from_list children))) }
 {
     let mut all = true;
     for i in 0..tile.count {
         let child = tree.child(tile.node, i);
-        let ready = walk_node(tree, context, child, tile.measured_by, found)?;
+        let ready = walk_node(
+            tree,
+            context,
+            child,
+            tile.measured_by,
+            Some(tile.number),
+            found,
+        )?;
         all = all & ready;
     }
     Ok(all)
@@ -297,6 +328,9 @@ pub fn walk_whole<T: TileTree, H: Holdings>(
         [] found.visits.items nodes) }
     ensures count { let nodes = visits view.now (T.standing tree.old).tree in
         IfOk result (λ found. length found.visits.items ≡ length nodes) }
+    ensures links { let nodes = from_root (linked_nodes view.now None 0)
+        (T.standing tree.old).tree in
+        IfOk result (λ found. LinksMore view.now [] found.visits.items nodes) }
     ensures basis { T.basis tree.new ≡ T.basis tree.old }
     ensures walk { WalksWhole result view.now (T.standing tree.old) (T.standing tree.new) }
 {
@@ -309,6 +343,6 @@ pub fn walk_whole<T: TileTree, H: Holdings>(
         holdings,
         view,
     };
-    walk_node(tree, &context, root, None, &mut found)?;
+    walk_node(tree, &context, root, None, None, &mut found)?;
     Ok(found)
 }

@@ -41,8 +41,9 @@ fn distance_by<T: TileTree>(tree: &T, view: &View, node: Option<Node>) -> u64
     }
 }
 
-/// What the wants of a visited node are ranked by.
-fn facts_noted<T: TileTree>(tree: &T, view: &View, visit: &Visit) -> TileFacts
+/// What the wants of a visited node are ranked by: its distance in millimetres, and its error in
+/// micrometres.
+pub fn facts_noted<T: TileTree>(tree: &T, view: &View, visit: &Visit) -> TileFacts
     requires { IsNoteValid (T.standing tree.now) visit.now }
     ensures { result ≡ ranks_of (measured_at (T.standing tree.now) view.now visit.now) }
 {
@@ -53,7 +54,7 @@ fn facts_noted<T: TileTree>(tree: &T, view: &View, visit: &Visit) -> TileFacts
 }
 
 /// Whether the content at this address is neither resident nor known to be absent.
-fn is_missing<H: Holdings>(holdings: &H, address: &Text) -> bool
+pub fn is_missing<H: Holdings>(holdings: &H, address: &Text) -> bool
     ensures { result ≡ is_missing (H.holdings holdings.now) address.now }
 {
     !holdings.absent(address) && !holdings.resident(address)
@@ -113,7 +114,7 @@ fn put_wants<T: TileTree, H: Holdings>(
 }
 
 /// What the noted nodes want.
-fn wants_of_visits<T: TileTree, H: Holdings>(
+pub(crate) fn wants_of_visits<T: TileTree, H: Holdings>(
     tree: &T,
     context: &Context<'_, H>,
     visits: &[Visit],

@@ -1,20 +1,17 @@
-use Rattle.std.proofs.Common.{Err, ◌≡◌, ◌+◌, ◌*◌, ◌<◌, ◌≤◌, true, false, ◌||◌, Some, [], ◌∷◌, refl, sym, ◌∙◌, ap, subst, rules, arith, length, length-append, take}
-use Rattle.std.specs.Prelude.{if◌then◌else◌}
+use Rattle.std.proofs.Common.{Err, ◌≡◌, ◌+◌, ◌*◌, ◌<◌, true, false, ◌||◌, Some, [], ◌∷◌, refl, sym, ◌∙◌, ap, rules, arith, length, length-append, take}
 use Rattle.std.specs.List.{list_all}
 use Rattle.std.proofs.lemmas.List.{take_all}
 use Rattle.std.proofs.lemmas.Result.{err_from_is_err_and}
-use Rattle.expanded_tree.specs.Tree.{tree_size, children_of, facts_of}
+use Rattle.expanded_tree.specs.Tree.{tree_size, children_of}
 use Rattle.expanded_tree.specs.Standing.{StandsFor}
 use Rattle.expanded_tree.proofs.Trees.{child_size}
-use Rattle.cut_core.specs.declared.findings.Visit.{Visit}
 use Rattle.cut_core.specs.Cut.{adds, is_add, has_own, lacks_own, is_ready}
-use Rattle.cut_core.specs.Distances.{distance_of, measured, measured_nodes}
-use Rattle.cut_core.specs.Walk.{Found, IsNoteOf, Walked, WalksNode, distance_by, found_in}
-use Rattle.cut_core.specs.Visits.{keeps_own}
+use Rattle.cut_core.specs.Walk.{Found, distance_by}
 use Rattle.cut_core.proofs.Bools.{or_true, or_false}
 use Rattle.cut_core.proofs.Lists.{all_more, add_agrees}
 use Rattle.cut_core.proofs.CutSteps.{ready_adding, ready_replacing}
 use Rattle.cut_core.proofs.Notes.{IsAnyValid-keeps, distance_by-keeps, measured_far, note_of}
+use Rattle.cut_core.proofs.Links.{links_none, links_one, links_again, links_child, linked_culled, linked_alone, linked_wants, pending_wants}
 use Rattle.cut_core.proofs.Walks.{counts_none, counts_some, children_more, node_culled, node_pending, node_end, node_wanting, opens_alone, stopped_here, stopped_opened, stopped_unopened, tile_adding, tile_refined, tile_coarse, walked_none, walks_ok, walks_memory, walks_refused, walks_below, walks_child, walks_behind}
 use Rattle.cut_core.proofs.walk.+walk.Goals as goal
 
@@ -25,6 +22,7 @@ walk_children-loop-i-init g t c = record {
       (g.H.Holdings.holdings c.args.context.now.holdings.now) _ _ c.requires.within;
   all = refl;
   at_hand = c.requires.at_hand;
+  links = links_none c.args.context.now.view.now _ _ _ refl refl;
 }
 
 pub walk_children-walk_node-requires : goal.walk_children-walk_node-requires
@@ -73,6 +71,9 @@ walk_children-loop-i-preserved g t c =
           (u.node_tree c.child-child.result) _ _ e c.loop-i.invariant.all
           c.in_ok-ready.ensures.ready;
       at_hand = child.keeps.at_hand c.args.tile.node c.loop-i.invariant.at_hand;
+      links = links_child view (Some c.args.tile.number) _ _ _ _ c.loop-i.i
+          (u.node_tree c.child-child.result) e c.loop-i.invariant.links
+          c.in_ok-ready.ensures.links;
     }
 
 pub walk_node-returns-in_err-note-in-Pending-clause-walk :
@@ -138,8 +139,9 @@ walk_node-returns-in_err-state-in-Tile-clause-walk g t c =
     (record {
       node = c.args.node;
       measured_by = c.measured_by-measured_by-in-Tile.result;
-      kept =
-          true;
+      parent = c.args.parent;
+      wants = false;
+      kept = true;
     } ∷ []) in
     rw (p.1, p.2)
     (walks_below view (g.H.Holdings.holdings c.args.context.now.holdings.now)
@@ -165,7 +167,8 @@ walk_node-returns-in_ok-note-in-Pending-clause-walk g t c =
     let k = c.in-Pending.ensures in
     walks_ok view holdings _
     (node_pending view holdings _ _ (s.node_tree c.args.node) k.seen k.waits
-    (λ keeps. note_of view holdings s c.args.node c.args.above _ c.in-Pending.has_volume false
+    (λ keeps. note_of view holdings s c.args.node c.args.above _ c.in-Pending.has_volume
+    c.args.parent false false
     c.measured_by-measured_by.ensures k.volume c.requires.valid c.requires.above keeps)
     c.in_ok-note-in-Pending.ensures.within c.in_ok-note-in-Pending.ensures.ok)
 
@@ -189,7 +192,7 @@ walk_node-returns-in_ok-state-in-Tile-clause-walk g t c =
     (node_wanting view holdings (distance_by s view c.args.above) _ _ here k.seen wanted.0 keeps
     (opens_alone view here c.in-Tile.may_want k.tile k.wants c.in_ok-count-in-Tile.ensures.opens)
     (note_of view holdings s c.args.node c.args.above _ c.in-Tile.has_volume
-    c.in_ok-state-in-Tile.state.kept m k.volume c.requires.valid c.requires.above
+    c.args.parent true c.in_ok-state-in-Tile.state.kept m k.volume c.requires.valid c.requires.above
     (rw same at c.in_ok-state-in-Tile.ensures.kept))
     c.in_ok-note-in-Tile.ensures.ok below.ends
     (rw (sym (c.len-at.ensures ∙ c.args.found.now.visits.ok.0)) c.note_again.ensures))
@@ -344,7 +347,82 @@ walk_node-returns-then-count-eq0-clause-walk g t c =
     (node_end view holdings (distance_by s view c.args.above) _ here
     (has_own holdings here) k.tile k.seen unwanted keeps
     (opens_alone view here c.in-Tile.may_want k.tile k.wants c.in_ok-count-in-Tile.ensures.opens)
-    (λ kept. note_of view holdings s c.args.node c.args.above _ c.in-Tile.has_volume true
+    (λ kept. note_of view holdings s c.args.node c.args.above _ c.in-Tile.has_volume
+    c.args.parent false true
     c.measured_by-measured_by-in-Tile.ensures k.volume c.requires.valid c.requires.above kept)
     c.in_ok-note-in-Tile.ensures.within c.in_ok-note-in-Tile.ensures.ok refl
     (rw same at c.in_ok-show_tile-in-Tile.ensures.shows))
+
+pub walk_node-returns-in-Culled-clause-links : goal.walk_node-returns-in-Culled-clause-links
+walk_node-returns-in-Culled-clause-links g t c =
+    let view = c.args.context.now.view.now in
+    let here = (g.T.TileTree.standing c.args.tree.now).node_tree c.args.node in
+    links_none view _ _ _ refl
+    (linked_culled view c.args.parent (length c.args.found.now.visits.items) here
+    c.in-Culled.ensures)
+
+pub walk_node-returns-in_ok-note-in-Pending-clause-links :
+    goal.walk_node-returns-in_ok-note-in-Pending-clause-links
+walk_node-returns-in_ok-note-in-Pending-clause-links g t c =
+    let view = c.args.context.now.view.now in
+    let here = (g.T.TileTree.standing c.args.tree.now).node_tree c.args.node in
+    let k = c.in-Pending.ensures in
+    let unwanted = pending_wants view here k.waits in
+    links_one view _ _ _ _ c.args.parent here
+    (ap (λ (f : Found). f.visits) c.in_ok-note-in-Pending.ensures.ok)
+    refl (sym unwanted)
+    (linked_alone view c.args.parent (length c.args.found.now.visits.items) here k.seen unwanted)
+
+pub walk_node-returns-then-count-eq0-clause-links :
+    goal.walk_node-returns-then-count-eq0-clause-links
+walk_node-returns-then-count-eq0-clause-links g t c =
+    let view = c.args.context.now.view.now in
+    let here = (g.T.TileTree.standing c.args.tree.now).node_tree c.args.node in
+    let k = c.in-Tile.ensures in
+    let unwanted = counts_none view here c.in-Tile.may_want k.wants
+    (sym c.in_ok-count-in-Tile.ensures.count ∙ c.if-count-eq0.true) in
+    links_one view _ _ _ _ c.args.parent here
+    (ap (λ (f : Found). f.visits) c.in_ok-show_tile-in-Tile.ensures.shows
+    ∙ ap (λ (f : Found). f.visits) c.in_ok-note-in-Tile.ensures.ok)
+    refl (sym unwanted)
+    (linked_alone view c.args.parent (length c.args.found.now.visits.items) here k.seen unwanted)
+
+pub walk_node-returns-in_ok-state-in-Tile-clause-links :
+    goal.walk_node-returns-in_ok-state-in-Tile-clause-links
+walk_node-returns-in_ok-state-in-Tile-clause-links g t c =
+    let view = c.args.context.now.view.now in
+    let here = (g.T.TileTree.standing c.args.tree.now).node_tree c.args.node in
+    let k = c.in-Tile.ensures in
+    let wanted = counts_some view here c.in-Tile.may_want c.in_ok-count-in-Tile.count k.wants
+    c.in_ok-count-in-Tile.ensures.count (omega arith) in
+    let same = c.open_wanted.ensures.keeps.same c.args.node c.requires.valid in
+    let start : c.len-at.result ≡ length c.args.found.now.visits.items =
+    c.len-at.ensures ∙ c.args.found.now.visits.ok.0 in
+    let one = ap (λ (f : Found). f.visits) c.in_ok-note-in-Tile.ensures.ok in
+    let long : length c.note-in-Tile.new.self.visits.items
+    ≡ length c.args.found.now.visits.items + 1 =
+    ap length one ∙ length-append c.args.found.now.visits.items _ in
+    links_again view _ _ _ _ _ _ _ _ c.args.parent here one
+    (rw (same, start, long) at c.in_ok-state-in-Tile.ensures.links)
+    (rw start at (ap (λ (f : Found). f.visits) c.note_again.ensures))
+    refl (sym wanted.0)
+    (linked_wants view c.args.parent (length c.args.found.now.visits.items) here k.seen wanted.0)
+
+pub walk_tile-returns-in_ok-all-in-Add-clause-links :
+    goal.walk_tile-returns-in_ok-all-in-Add-clause-links
+walk_tile-returns-in_ok-all-in-Add-clause-links g t c =
+    rw (ap (λ (f : Found). f.visits) c.in_ok-show-in-Add.ensures)
+    at c.in_ok-all-in-Add.ensures.links
+
+pub walk_tile-returns-in_ok-ready-in-Replace-clause-links :
+    goal.walk_tile-returns-in_ok-ready-in-Replace-clause-links
+walk_tile-returns-in_ok-ready-in-Replace-clause-links g t c =
+    rw c.in_ok-ready-in-Replace.ensures.visits c.in_ok-all-in-Replace.ensures.links
+
+pub walk_children-returns-clause-links : goal.walk_children-returns-clause-links
+walk_children-returns-clause-links g t c =
+    let children = children_of ((g.T.TileTree.standing c.args.tree.now).node_tree c.args.tile.node)
+    in
+    let whole : take c.loop-i.i children ≡ children =
+    take_all c.loop-i.i children (omega (arith, c.requires.count)) in
+    rw whole at c.loop-i.invariant.links

@@ -1,8 +1,10 @@
-use Rattle.std.proofs.Common.{◌≡◌, ◌+◌, ◌*◌, IsTrue, take}
+use Rattle.std.proofs.Common.{◌≡◌, ◌+◌, ◌*◌, IsTrue, Some, length, take}
 use Rattle.std.specs.List.{list_all, flat_map}
-use Rattle.expanded_tree.specs.Tree.{tree_size, children_of}
+use Rattle.expanded_tree.specs.Tree.{tree_size, children_of, from_list}
 use Rattle.cut_core.specs.Cut.{is_ready, shown_tiles}
 use Rattle.cut_core.specs.Distances.{measured_nodes}
+use Rattle.cut_core.specs.Linked.{all_linked_nodes}
+use Rattle.cut_core.specs.Links.{LinksMore}
 use Rattle.cut_core.specs.Walk.{Walked, distance_by, found_in}
 use Rattle.cut_core.proofs.walk.+walk.Given as goal
 
@@ -32,4 +34,7 @@ invariant-walk_children-loop-i g l =
           (flat_map (measured_nodes view d) done) (flat_map (shown_tiles view holdings) done);
       all : l.all ≡ list_all (is_ready view holdings) done;
       at_hand : IsTrue (now.at_hand l.tile.node);
+      links : LinksMore view l.fn.found.visits.items l.found.visits.items
+          (all_linked_nodes view (Some l.tile.number) (length l.fn.found.visits.items)
+          (from_list done));
     }

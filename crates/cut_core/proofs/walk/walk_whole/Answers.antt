@@ -1,8 +1,11 @@
-use Rattle.std.proofs.Common.{◌∙◌, ap, sym, length, arith}
+use Rattle.std.proofs.Common.{None, ◌∙◌, ap, sym, length, arith}
 use Rattle.std.proofs.lemmas.Result.{err_from_is_err_and}
+use Rattle.cut_core.specs.Cut.{from_root}
+use Rattle.cut_core.specs.Linked.{linked_nodes}
 use Rattle.cut_core.specs.Visits.{visits}
 use Rattle.cut_core.specs.Walk.{Found}
 use Rattle.cut_core.proofs.Distances.{length-measured_nodes}
+use Rattle.cut_core.proofs.Links.{links_none}
 use Rattle.cut_core.proofs.Notes.{NotesMore-length}
 use Rattle.cut_core.proofs.WholeWalks.{whole_empty, whole_stopped, whole_unopened, whole_walked}
 use Rattle.cut_core.proofs.walk.walk_whole.Goals as goal
@@ -45,3 +48,15 @@ returns-clause-count g c =
     let none = ap (λ (f : Found). length f.visits) c.new-found.ensures in
     let same = ap (λ t. length (visits view t)) (sym root.1 ∙ c.top.ensures.tree) in
     omega (arith, seen, none, same, length-measured_nodes view 0 t)
+
+pub returns-in_default-clause-links : goal.returns-in_default-clause-links
+returns-in_default-clause-links g c =
+    let root = rw c.in_default.is at c.in_ok-root.ensures.root in
+    links_none c.args.view.now _ _ _ (ap (λ (f : Found). f.visits) c.new-found.ensures)
+    (ap (from_root (linked_nodes c.args.view.now None 0)) (sym c.top.ensures.tree ∙ root))
+
+pub returns-clause-links : goal.returns-clause-links
+returns-clause-links g c =
+    let root = rw c.in-Some.is at c.in_ok-root.ensures.root in
+    let none = ap (λ (f : Found). f.visits) c.new-found.ensures in
+    rw (sym c.top.ensures.tree ∙ root.1) (rw none at c.in_ok-walk_node.ensures.links)

@@ -22,8 +22,9 @@ returns-then-own g c =
     sym (ap (fold with_want (wants_in c.args.wants.now))
     (ap (λ b. wants_noted s view holdings (record {
       node = v.node;
-      measured_by =
-          v.measured_by;
+      measured_by = v.measured_by;
+      parent = v.parent;
+      wants = v.wants;
       kept = b;
     })) c.if-not-visit.false
     ∙ wants_none holdings true (measured_at s view v) tile missing))
