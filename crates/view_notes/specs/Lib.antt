@@ -1,0 +1,14 @@
+pub mod Changes
+pub mod Views
+pub mod Leaving
+pub mod Examples
+pub mod Notes
+pub mod Agreement
+pub mod Users
+pub mod Rising
+pub mod Names
+pub mod Index
+pub mod Follows
+pub mod Visited
+pub mod Kept
+pub mod Asking
