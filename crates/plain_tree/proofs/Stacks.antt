@@ -6,15 +6,15 @@ use Rattle.std.proofs.lemmas.List.Elements.{All-push, All-nil, All-pop}
 use Rattle.doc_store.specs.Store.{Stored}
 use Rattle.expanded_tree.specs.declared.node.Node.{Node}
 use Rattle.expanded_tree.specs.Tree.{Tree, Trees, tile, pending, no_trees, more_trees, list_of, children_of}
-use Rattle.plain_tree.specs.declared.node_list.NodeList.{NodeList}
+use Rattle.plain_tree.specs.declared.plain_list.PlainList.{PlainList}
 use Rattle.plain_tree.specs.declared.preorder.Siblings.{Siblings}
-use Rattle.plain_tree.specs.Plain.{tree_in}
+use Rattle.tree_nodes.specs.TreeIn.{tree_in}
 use Rattle.plain_tree.specs.Preorder.{tree_nodes, all_tree_nodes, nodes_of}
-use Rattle.plain_tree.specs.Trees.{stored_tree}
-use Rattle.plain_tree.specs.Nodes.{node_trees}
+use Rattle.tree_nodes.specs.Trees.{stored_tree}
+use Rattle.tree_nodes.specs.Nodes.{node_trees}
 use Rattle.plain_tree.specs.Windows.{IsParent, end_of, first_of, window}
 use Rattle.plain_tree.specs.Listed.{IsListed}
-use Rattle.plain_tree.proofs.Growing.{length-node_trees}
+use Rattle.tree_nodes.proofs.Growing.{length-node_trees}
 use Rattle.plain_tree.proofs.Sizes.{size-children, sizes}
 
 -- ---- nodes of lists of trees
@@ -82,12 +82,12 @@ window_first trees first end h k =
 
 -- ---- the loop
 
-pub record Open (store : Stored) (list : NodeList) (listed : List Node)
+pub record Open (store : Stored) (plain : PlainList) (listed : List Node)
     (stack : List Siblings) : Type 0 where
-  pub valid : All (λ (n : Node). n.number < length (node_trees store list)) listed
-  pub within : All (λ (s : Siblings). s.end ≤ length (node_trees store list)) stack
-  pub nodes : map (λ (n : Node). tree_in (node_trees store list) n.number) listed ++ open_nodes
-      (node_trees store list) stack
+  pub valid : All (λ (n : Node). n.number < length (node_trees store plain.list)) listed
+  pub within : All (λ (s : Siblings). s.end ≤ length (node_trees store plain.list)) stack
+  pub nodes : map (λ (n : Node). tree_in (node_trees store plain.list) n.number) listed ++ open_nodes
+      (node_trees store plain.list) stack
       ≡ nodes_of (stored_tree store)
 
 all_one : (trees : List Tree) (end : ℕ) (root : Option Tree) → slice_get trees 0 ≡ root
@@ -105,12 +105,12 @@ all_one (t ∷ ts) end root e none some =
           ∙ ap nodes_of e,
     )
 
-pub starts : (store : Stored) (list : NodeList) (end : ℕ) → IsListed store list
-    → ((length list.nodes.items ≡ 0) → end ≡ 0) → (0 < length list.nodes.items → end ≡ 1)
-    → Open store list [] (record { next = 0; end = end } ∷ [])
-starts store list end l none some =
-    let trees = node_trees store list in
-    let long = length-node_trees store list in
+pub starts : (store : Stored) (plain : PlainList) (end : ℕ) → IsListed store plain
+    → ((length plain.list.nodes.items ≡ 0) → end ≡ 0) → (0 < length plain.list.nodes.items → end ≡ 1)
+    → Open store plain [] (record { next = 0; end = end } ∷ [])
+starts store plain end l none some =
+    let trees = node_trees store plain.list in
+    let long = length-node_trees store plain.list in
     let root = all_one trees end (stored_tree store) l.root (λ h. none (omega (arith, long, h)))
     (λ h. some (omega (arith, long, h))) in
     record {
@@ -120,37 +120,37 @@ starts store list end l none some =
       nodes = root.1;
     }
 
-module _ (store : Stored) (list : NodeList) (listed : List Node) (stack rest : List Siblings)
+module _ (store : Stored) (plain : PlainList) (listed : List Node) (stack rest : List Siblings)
     (s : Siblings)
-    (l : IsListed store list) (w : Open store list listed stack)
+    (l : IsListed store plain) (w : Open store plain listed stack)
     (popped : stack ≡ rest ++ s ∷ []) where
   abbrev trees : List Tree
-  trees = node_trees store list
+  trees = node_trees store plain.list
 
-  both : All (λ (r : Siblings). r.end ≤ length (node_trees store list)) (rest ++ s ∷ [])
-  both = subst (All (λ (r : Siblings). r.end ≤ length (node_trees store list))) popped w.within
+  both : All (λ (r : Siblings). r.end ≤ length (node_trees store plain.list)) (rest ++ s ∷ [])
+  both = subst (All (λ (r : Siblings). r.end ≤ length (node_trees store plain.list))) popped w.within
 
-  pub rest_within : All (λ (r : Siblings). r.end ≤ length (node_trees store list)) rest
-  rest_within = (All-pop (λ (r : Siblings). r.end ≤ length (node_trees store list)) (rest ++ s ∷ [])
+  pub rest_within : All (λ (r : Siblings). r.end ≤ length (node_trees store plain.list)) rest
+  rest_within = (All-pop (λ (r : Siblings). r.end ≤ length (node_trees store plain.list)) (rest ++ s ∷ [])
       rest (Some s) refl both).0
 
-  pub top_within : s.end ≤ length (node_trees store list)
-  top_within = (All-pop (λ (r : Siblings). r.end ≤ length (node_trees store list)) (rest ++ s ∷ [])
+  pub top_within : s.end ≤ length (node_trees store plain.list)
+  top_within = (All-pop (λ (r : Siblings). r.end ≤ length (node_trees store plain.list)) (rest ++ s ∷ [])
       rest (Some s) refl both).1
 
-  top_nodes : map (λ (n : Node). tree_in (node_trees store list) n.number) listed
-      ++ (list_nodes (window (node_trees store list) s.next s.end) ++ open_nodes
-      (node_trees store list) rest)
+  top_nodes : map (λ (n : Node). tree_in (node_trees store plain.list) n.number) listed
+      ++ (list_nodes (window (node_trees store plain.list) s.next s.end) ++ open_nodes
+      (node_trees store plain.list) rest)
       ≡ nodes_of (stored_tree store)
   top_nodes = ap (λ ns. map (λ (n : Node). tree_in trees n.number) listed ++ ns)
       (sym (ap (open_nodes trees) popped ∙ stack-last trees rest s))
       ∙ w.nodes
 
-  size_open : open_size (node_trees store list) stack ≡ open_size (node_trees store list) rest
-      + sizes (window (node_trees store list) s.next s.end)
+  size_open : open_size (node_trees store plain.list) stack ≡ open_size (node_trees store plain.list) rest
+      + sizes (window (node_trees store plain.list) s.next s.end)
   size_open = ap (open_size trees) popped ∙ size-last trees rest s
 
-  pub passed : s.end ≤ s.next → Open store list listed rest
+  pub passed : s.end ≤ s.next → Open store plain listed rest
   passed h = record {
     valid = w.valid;
     within = rest_within;
@@ -160,12 +160,12 @@ module _ (store : Stored) (list : NodeList) (listed : List Node) (stack rest : L
         (sym (window_none trees s.next s.end h)) ∙ top_nodes;
   }
 
-  pub smaller_passed : 2 * open_size (node_trees store list) rest + length rest < 2 * open_size
-      (node_trees store list) stack + length stack
+  pub smaller_passed : 2 * open_size (node_trees store plain.list) rest + length rest < 2 * open_size
+      (node_trees store plain.list) stack + length stack
   smaller_passed = omega (arith, size_open, ap length popped, length-append rest (s ∷ []))
 
   module _ (inside : s.next < s.end) where
-    pub parent : IsParent (node_trees store list) list.bounds.items s.next
+    pub parent : IsParent (node_trees store plain.list) plain.bounds.items s.next
     parent = l.children s.next (omega (arith, inside, top_within))
 
     abbrev others : Siblings
@@ -173,20 +173,20 @@ module _ (store : Stored) (list : NodeList) (listed : List Node) (stack rest : L
 
     abbrev below : Siblings
     below =
-        record { next = first_of list.bounds.items s.next; end = end_of list.bounds.items s.next }
+        record { next = first_of plain.bounds.items s.next; end = end_of plain.bounds.items s.next }
 
     abbrev here : Tree
     here = tree_in trees s.next
 
-    window_here : window (node_trees store list) s.next s.end ≡ tree_in (node_trees store list)
-        s.next ∷ window (node_trees store list) (s.next + 1) s.end
+    window_here : window (node_trees store plain.list) s.next s.end ≡ tree_in (node_trees store plain.list)
+        s.next ∷ window (node_trees store plain.list) (s.next + 1) s.end
     window_here = window_first trees s.next s.end inside top_within
 
-    nodes_here : list_nodes (window (node_trees store list) s.next s.end)
-        ≡ tree_in (node_trees store list) s.next
-        ∷ (list_nodes (window (node_trees store list) (first_of list.bounds.items s.next)
-        (end_of list.bounds.items s.next))
-        ++ list_nodes (window (node_trees store list) (s.next + 1) s.end))
+    nodes_here : list_nodes (window (node_trees store plain.list) s.next s.end)
+        ≡ tree_in (node_trees store plain.list) s.next
+        ∷ (list_nodes (window (node_trees store plain.list) (first_of plain.bounds.items s.next)
+        (end_of plain.bounds.items s.next))
+        ++ list_nodes (window (node_trees store plain.list) (s.next + 1) s.end))
     nodes_here =
         ap list_nodes window_here
         ∙ ap (λ ns. ns ++ list_nodes (window trees (s.next + 1) s.end)) (nodes-children here)
@@ -194,7 +194,7 @@ module _ (store : Stored) (list : NodeList) (listed : List Node) (stack rest : L
         parent.children
 
     pub stepped : (n : Node) → n.number ≡ s.next
-        → Open store list (listed ++ n ∷ []) ((rest ++ others ∷ []) ++ below ∷ [])
+        → Open store plain (listed ++ n ∷ []) ((rest ++ others ∷ []) ++ below ∷ [])
     stepped n e = record {
       valid = All-push (λ (m : Node). m.number < length trees) listed n w.valid
           (omega (arith, e, inside, top_within));
@@ -213,45 +213,45 @@ module _ (store : Stored) (list : NodeList) (listed : List Node) (stack rest : L
           ∙ top_nodes;
     }
       where
-        pushed : open_nodes (node_trees store list)
+        pushed : open_nodes (node_trees store plain.list)
             ((rest ++ record { next = s.next + 1; end = s.end } ∷ [])
             ++ record {
-              next = first_of list.bounds.items s.next;
-              end = end_of list.bounds.items
+              next = first_of plain.bounds.items s.next;
+              end = end_of plain.bounds.items
                   s.next;
             } ∷ [])
-            ≡ (list_nodes (window (node_trees store list) (first_of list.bounds.items s.next)
-            (end_of list.bounds.items s.next))
-            ++ list_nodes (window (node_trees store list) (s.next + 1) s.end)) ++ open_nodes
-            (node_trees store list) rest
+            ≡ (list_nodes (window (node_trees store plain.list) (first_of plain.bounds.items s.next)
+            (end_of plain.bounds.items s.next))
+            ++ list_nodes (window (node_trees store plain.list) (s.next + 1) s.end)) ++ open_nodes
+            (node_trees store plain.list) rest
         pushed =
             stack-last trees (rest ++ record { next = s.next + 1; end = s.end } ∷ [])
             (record {
-              next = first_of list.bounds.items s.next;
-              end = end_of list.bounds.items s.next;
+              next = first_of plain.bounds.items s.next;
+              end = end_of plain.bounds.items s.next;
             })
-            ∙ ap (λ ns. list_nodes (window trees (first_of list.bounds.items s.next)
-            (end_of list.bounds.items s.next)) ++ ns)
+            ∙ ap (λ ns. list_nodes (window trees (first_of plain.bounds.items s.next)
+            (end_of plain.bounds.items s.next)) ++ ns)
             (stack-last trees rest (record { next = s.next + 1; end = s.end }))
             ∙ sym (append_assoc
-            (list_nodes (window trees (first_of list.bounds.items s.next)
-            (end_of list.bounds.items s.next)))
+            (list_nodes (window trees (first_of plain.bounds.items s.next)
+            (end_of plain.bounds.items s.next)))
             (list_nodes (window trees (s.next + 1) s.end)) (open_nodes trees rest))
 
-    pub smaller_stepped : 2 * open_size (node_trees store list)
+    pub smaller_stepped : 2 * open_size (node_trees store plain.list)
         ((rest ++ record { next = s.next + 1; end = s.end } ∷ [])
         ++ record {
-          next = first_of list.bounds.items s.next;
-          end = end_of list.bounds.items
+          next = first_of plain.bounds.items s.next;
+          end = end_of plain.bounds.items
               s.next;
         } ∷ [])
         + length ((rest ++ record { next = s.next + 1; end = s.end } ∷ [])
         ++ record {
-          next = first_of list.bounds.items s.next;
-          end = end_of list.bounds.items
+          next = first_of plain.bounds.items s.next;
+          end = end_of plain.bounds.items
               s.next;
         } ∷ [])
-        < 2 * open_size (node_trees store list) stack + length stack
+        < 2 * open_size (node_trees store plain.list) stack + length stack
     smaller_stepped =
         omega (
           arith,

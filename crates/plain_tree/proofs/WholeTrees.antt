@@ -6,28 +6,29 @@ use Rattle.std.proofs.lemmas.List.{drop-append-le, take-append-le, drop_all, get
 use Rattle.std.proofs.lemmas.Bool.{cases_lt}
 use Rattle.doc_store.specs.Store.{Stored}
 use Rattle.expanded_tree.specs.Tree.{Tree, children_of, tree_size}
-use Rattle.plain_tree.specs.declared.error.PlainError.{PlainError}
-use Rattle.plain_tree.specs.declared.node_list.NodeList.{NodeList}
-use Rattle.plain_tree.specs.Plain.{tree_in}
-use Rattle.plain_tree.specs.Nodes.{IsSoundList, node_trees}
-use Rattle.plain_tree.specs.Windows.{HasFew, IsParent, end_of, first_of, window}
-use Rattle.plain_tree.specs.Growth.{Grows, IsGrown, IsWithin, Refuses}
-use Rattle.plain_tree.proofs.Growing.{grows_length, length-node_trees}
-use Rattle.plain_tree.proofs.NodeTrees.{tree_left}
-use Rattle.plain_tree.proofs.Refusals.{refuses_more}
-use Rattle.plain_tree.specs.Waits.{pending_count, top_waits, tops_wait}
-use Rattle.plain_tree.proofs.Waits.{all_wait, all_wait-append, tops_wait-append, waits-children}
+use Rattle.tree_nodes.specs.declared.error.ListError.{ListError}
+use Rattle.tree_nodes.specs.declared.node_list.NodeList.{NodeList}
+use Rattle.tree_nodes.specs.TreeIn.{tree_in}
+use Rattle.tree_nodes.specs.Nodes.{IsSoundList, node_trees}
+use Rattle.plain_tree.specs.Windows.{IsParent, end_of, first_of, window}
+use Rattle.tree_nodes.specs.Growth.{Grows, HasFew, IsWithin, Refuses}
+use Rattle.plain_tree.specs.Grown.{IsGrown}
+use Rattle.tree_nodes.proofs.Growing.{grows_length, length-node_trees}
+use Rattle.tree_nodes.proofs.NodeTrees.{tree_left}
+use Rattle.tree_nodes.proofs.Refusals.{refuses_more}
+use Rattle.tree_nodes.specs.Waits.{pending_count, top_waits, tops_wait}
+use Rattle.tree_nodes.proofs.Waits.{all_wait, all_wait-append, tops_wait-append, waits-children}
 use Rattle.plain_tree.proofs.Sizes.{length_le-sizes, size-children, sizes, sizes-append}
 
 -- the nodes before the place have their children, and those behind it none yet
 pub record Levels (store : Stored) (limit : Option ℕ) (old now : NodeList)
-    (place : ℕ) : Type 0 where
+    (ends : List ℕ) (place : ℕ) : Type 0 where
   pub sound : IsSoundList store now
   pub some : 0 < length now.nodes.items
   pub past : place ≤ length now.nodes.items
-  pub bounds : length now.bounds.items ≡ place + 1
-  pub last : get_or now.bounds.items place 0 ≡ length now.nodes.items
-  pub parents : (i : ℕ) → i < place → IsParent (node_trees store now) now.bounds.items i
+  pub bounds : length ends ≡ place + 1
+  pub last : get_or ends place 0 ≡ length now.nodes.items
+  pub parents : (i : ℕ) → i < place → IsParent (node_trees store now) ends i
   pub root : slice_get (node_trees store now) 0 ≡ slice_get (node_trees store old) 0
   pub counted : place + sizes (drop place (node_trees store now))
       ≡ tree_size (tree_in (node_trees store old) 0)
@@ -49,8 +50,9 @@ only_one (t ∷ []) e = omega arith
 only_one (t ∷ u ∷ us) e = absurd (omega (arith, e))
 
 pub begins : (store : Stored) (limit : Option ℕ) (list : NodeList) → IsSoundList store list
-    → length list.nodes.items ≡ 1 → list.bounds.items ≡ 1 ∷ [] → Levels store limit list list 0
-begins store limit list sound one bounds = record {
+    → length list.nodes.items ≡ 1 → (ends : List ℕ) → ends ≡ 1 ∷ []
+    → Levels store limit list list ends 0
+begins store limit list sound one ends bounds = record {
   sound = sound;
   some = omega (arith, one);
   past = omega arith;
@@ -143,15 +145,15 @@ drop_next (t ∷ ts) (suc i) h = drop_next ts i (omega arith)
     next : (n : ℕ) → suc (n + 1) ≡ suc n + 1
     next n = omega arith
 
-module _ (store : Stored) (limit : Option ℕ) (old now : NodeList) (place : ℕ)
-    (w : Levels store limit old now place) where
+module _ (store : Stored) (limit : Option ℕ) (old now : NodeList) (ends : List ℕ)
+    (place : ℕ) (w : Levels store limit old now ends place) where
   abbrev trees : List Tree
   trees = node_trees store now
 
   long : length (node_trees store now) ≡ length now.nodes.items
   long = length-node_trees store now
 
-  pub ended : length now.nodes.items ≤ place → IsGrown store limit old now
+  pub ended : length now.nodes.items ≤ place → IsGrown store limit old now ends
   ended h = record {
     sound = w.sound;
     root = w.root;
@@ -198,7 +200,7 @@ module _ (store : Stored) (limit : Option ℕ) (old now : NodeList) (place : ℕ
         (drop (place + 1) (node_trees store now))
     tops_here = ap tops_wait here_first
 
-    pub refused : (e : PlainError)
+    pub refused : (e : ListError)
         → Refuses limit
         (length now.nodes.items + length (children_of (tree_in (node_trees store now) place))) e
         → Refuses limit (tree_size (tree_in (node_trees store old) 0)) e
@@ -220,19 +222,17 @@ module _ (store : Stored) (limit : Option ℕ) (old now : NodeList) (place : ℕ
     pub smaller : place < tree_size (tree_in (node_trees store old) 0)
     smaller = omega (arith, w.counted, sizes_here)
 
-    pub stepped : (new last : NodeList) (end : ℕ)
+    pub stepped : (new last : NodeList) (more : List ℕ) (end : ℕ)
         → Grows store limit now new (children_of (tree_in (node_trees store now) place))
         → HasFew (tree_in (node_trees store now) place)
         → end ≡ length new.nodes.items
         → last.nodes.items ≡ new.nodes.items → node_trees store last ≡ node_trees store new
         → last.tables.waiting.items ≡ new.tables.waiting.items
         → (IsSoundList store new → IsSoundList store last)
-        → last.bounds.items ≡ new.bounds.items ++ end ∷ []
-        → Levels store limit old last (place + 1)
-    stepped new last end g few end_is nodes same waiting sound bounds =
+        → more ≡ ends ++ end ∷ []
+        → Levels store limit old last more (place + 1)
+    stepped new last more end g few end_is nodes same waiting sound bounds =
         let all : node_trees store last ≡ node_trees store now ++ here = same ∙ g.trees in
-        let added : last.bounds.items ≡ now.bounds.items ++ end ∷ [] =
-        bounds ∙ ap (λ bs. bs ++ end ∷ []) g.bounds in
         let count : length new.nodes.items ≡ length now.nodes.items + length here =
         grows_length store limit now new here g in
         let counted : length last.nodes.items ≡ length new.nodes.items = ap length nodes in
@@ -241,12 +241,12 @@ module _ (store : Stored) (limit : Option ℕ) (old now : NodeList) (place : ℕ
           some = omega (arith, w.some, count, counted);
           past = omega (arith, inside, count, counted);
           bounds =
-              omega (arith, ap length added, length-append now.bounds.items (end ∷ []), w.bounds);
-          last = ap (λ bs. get_or bs (place + 1) 0) added
-              ∙ ap (λ k. get_or (now.bounds.items ++ end ∷ []) k 0) (omega (arith, w.bounds))
-              ∙ get_or-append-add now.bounds.items (end ∷ []) 0 0 ∙ end_is ∙ sym counted;
-          parents = λ i h. subst (λ ts. IsParent ts last.bounds.items i) (sym all)
-              (subst (λ bs. IsParent (node_trees store now ++ here) bs i) (sym added)
+              omega (arith, ap length bounds, length-append ends (end ∷ []), w.bounds);
+          last = ap (λ bs. get_or bs (place + 1) 0) bounds
+              ∙ ap (λ k. get_or (ends ++ end ∷ []) k 0) (omega (arith, w.bounds))
+              ∙ get_or-append-add ends (end ∷ []) 0 0 ∙ end_is ∙ sym counted;
+          parents = λ i h. subst (λ ts. IsParent ts more i) (sym all)
+              (subst (λ bs. IsParent (node_trees store now ++ here) bs i) (sym bounds)
               (parents_now i h));
           root = ap (λ ts. slice_get ts 0) all
               ∙ first_stays (node_trees store now) here (omega (arith, long, w.some)) ∙ w.root;
@@ -281,12 +281,12 @@ module _ (store : Stored) (limit : Option ℕ) (old now : NodeList) (place : ℕ
       where
         parents_now : (i : ℕ) → i < place + 1
             → IsParent (node_trees store now ++ children_of (tree_in (node_trees store now) place))
-            (now.bounds.items ++ end ∷ []) i
+            (ends ++ end ∷ []) i
         parents_now i h = by_place (cases_lt i place)
           where
             last_one : IsParent (node_trees store now ++ children_of
-                (tree_in (node_trees store now) place)) (now.bounds.items ++ end ∷ []) place
-            last_one = parent_last (node_trees store now) now.bounds.items place end
+                (tree_in (node_trees store now) place)) (ends ++ end ∷ []) place
+            last_one = parent_last (node_trees store now) ends place end
                 (omega (arith, long, inside)) w.bounds (w.last ∙ sym long) few
                 (omega (
                   arith,
@@ -298,13 +298,13 @@ module _ (store : Stored) (limit : Option ℕ) (old now : NodeList) (place : ℕ
 
             by_place : ((i < place) ⊎ (place ≤ i))
                 → IsParent (node_trees store now ++ children_of
-                (tree_in (node_trees store now) place)) (now.bounds.items ++ end ∷ []) i
+                (tree_in (node_trees store now) place)) (ends ++ end ∷ []) i
             by_place (inl k) =
                 parent_stays (node_trees store now)
-                (children_of (tree_in (node_trees store now) place)) now.bounds.items (end ∷ []) i
+                (children_of (tree_in (node_trees store now) place)) ends (end ∷ []) i
                 (omega (arith, k, long, inside)) (w.parents i k)
             by_place (inr k) =
                 let here_is : place ≡ i = omega (arith, h, k) in
                 subst (IsParent (node_trees store now ++ children_of
-                (tree_in (node_trees store now) place)) (now.bounds.items ++ end ∷ []))
+                (tree_in (node_trees store now) place)) (ends ++ end ∷ []))
                 here_is last_one

@@ -4,9 +4,9 @@ use Rattle.std.specs.List.{slice_get}
 use Rattle.std.proofs.lemmas.List.{length-take}
 use Rattle.std.proofs.lemmas.Option.{get_or_from_slice_get, slice_get_read, slice_get-get_or}
 use Rattle.expanded_tree.specs.Tree.{Tree, children_of}
-use Rattle.plain_tree.specs.Plain.{no_tree, tree_in}
+use Rattle.tree_nodes.specs.TreeIn.{no_tree, tree_in}
 use Rattle.plain_tree.specs.Windows.{IsParent, end_of, first_of}
-use Rattle.plain_tree.proofs.Elements.{slice_get-drop, slice_get-take}
+use Rattle.tree_nodes.proofs.Elements.{slice_get-drop, slice_get-take}
 
 module _ (trees : List Tree) (bounds : List ℕ) (place : ℕ) (p : IsParent trees bounds place) where
   pub child_count : length (children_of (tree_in trees place)) ≡ end_of bounds place - first_of

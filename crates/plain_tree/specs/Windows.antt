@@ -1,7 +1,8 @@
 -- Where the children of nodes stand.
-use Rattle.std.specs.Prelude.{ℕ, ◌≡◌, ◌≤◌, ◌<◌, ◌+◌, ◌-◌, ◌^◌, List, length, take, drop, slice_index}
-use Rattle.expanded_tree.specs.Tree.{Tree, addresses_of, children_of}
-use Rattle.plain_tree.specs.Plain.{tree_in}
+use Rattle.std.specs.Prelude.{ℕ, ◌≡◌, ◌≤◌, ◌<◌, ◌+◌, ◌-◌, List, length, take, drop, slice_index}
+use Rattle.expanded_tree.specs.Tree.{Tree, children_of}
+use Rattle.tree_nodes.specs.Growth.{HasFew}
+use Rattle.tree_nodes.specs.TreeIn.{tree_in}
 
 -- where the children of the node at a place begin and end
 abbrev pub first_of : List ℕ → ℕ → ℕ
@@ -13,11 +14,6 @@ end_of bounds place = slice_index bounds (place + 1)
 -- the trees from one place up to another
 abbrev pub window : List Tree → ℕ → ℕ → List Tree
 window trees first end = take (end - first) (drop first trees)
-
--- it has fewer than 2^32 children and own contents
-pub record HasFew (t : Tree) : Type 0 where
-  pub children : length (children_of t) < 2 ^ 32
-  pub contents : length (addresses_of t) < 2 ^ 32
 
 -- the node's children stand side by side between two bounds
 pub record IsParent (trees : List Tree) (bounds : List ℕ) (place : ℕ) : Type 0 where

@@ -1,5 +1,11 @@
 //! Why a tree isn't listed.
 
+ghost use Rattle.std.specs.Prelude.{ℕ, Option};
+ghost use Rattle.tree_nodes.specs.Growth.{Refuses as RefusesNodes};
+ghost use Rattle.plain_tree.specs.Refusals.{Refuses};
+
+use tree_nodes::ListError;
+
 /// Why a tree isn't listed.
 #[derive(Clone, Copy, Debug, PartialEq, Eq)]
 pub enum PlainError {
@@ -9,6 +15,15 @@ pub enum PlainError {
     OutOfMemory,
 }
 
-/// One node more is too many. What answers so takes no memory.
-#[derive(Clone, Copy, Debug, PartialEq, Eq)]
-pub(crate) struct NoRoom;
+impl PlainError {
+    /// Why a tree isn't listed whose nodes can't be added for this.
+    pub(crate) fn of(error: ListError) -> PlainError
+        ensures { (limit : Option ℕ) (count : ℕ) → RefusesNodes limit count error
+            → Refuses limit count result }
+    {
+        match error {
+            ListError::TooLarge => PlainError::TooLarge,
+            ListError::OutOfMemory => PlainError::OutOfMemory,
+        }
+    }
+}

@@ -1,13 +1,13 @@
 //! All nodes in preorder.
 
 ghost use Rattle.std.specs.Prelude.{◌≡◌, ◌<◌, All, IfOk, length, map};
-ghost use Rattle.plain_tree.specs.Plain.{tree_in};
+ghost use Rattle.tree_nodes.specs.TreeIn.{tree_in};
 ghost use Rattle.plain_tree.specs.Preorder.{nodes_of};
-ghost use Rattle.plain_tree.specs.Trees.{stored_tree};
-ghost use Rattle.plain_tree.specs.Nodes.{node_trees};
+ghost use Rattle.tree_nodes.specs.Trees.{stored_tree};
+ghost use Rattle.tree_nodes.specs.Nodes.{node_trees};
 ghost use Rattle.plain_tree.specs.Listed.{IsListed};
 
-use crate::node_list::NodeList;
+use crate::plain_list::PlainList;
 use doc_store::DocStore;
 use expanded_tree::Node;
 use std::alloc::{AllocError, Global};
@@ -23,18 +23,18 @@ struct Siblings {
 pub(crate) fn list_preorder(
     alloc: Global,
     _store: &DocStore,
-    list: &NodeList,
+    plain: &PlainList,
 ) -> Result<Vec<Node>, AllocError>
-    requires { IsListed _store.now list.now }
+    requires { IsListed _store.now plain.now }
     ensures valid { IfOk result (λ nodes.
-        All (λ n. n.number < length (node_trees _store.now list.now)) nodes.items) }
+        All (λ n. n.number < length (node_trees _store.now plain.now.list)) nodes.items) }
     ensures trees { IfOk result (λ nodes.
-        map (λ n. tree_in (node_trees _store.now list.now) n.number) nodes.items
+        map (λ n. tree_in (node_trees _store.now plain.now.list) n.number) nodes.items
         ≡ nodes_of (stored_tree _store.now)) }
 {
     let mut listed = Vec::new(alloc);
     let mut stack = Vec::new(alloc);
-    let end = list.nodes.len().min(1) as u64;
+    let end = plain.list.nodes.len().min(1) as u64;
     stack.push(Siblings { next: 0, end })?;
     while let Some(siblings) = stack.pop() {
         if siblings.next < siblings.end {
@@ -45,8 +45,8 @@ pub(crate) fn list_preorder(
                 end: siblings.end,
             })?;
             stack.push(Siblings {
-                next: list.bounds[place as usize],
-                end: list.bounds[place as usize + 1],
+                next: plain.bounds[place as usize],
+                end: plain.bounds[place as usize + 1],
             })?;
         }
     }

@@ -5,30 +5,31 @@ ghost use Rattle.std.specs.Prelude.{Some};
 ghost use Rattle.tree_expansion.specs.Whole.{IsWhole};
 ghost use Rattle.plain_tree.specs.Standing.{standing_of};
 ghost use Rattle.plain_tree.specs.Preorder.{nodes_of};
-ghost use Rattle.plain_tree.specs.Trees.{size_of, stored_tree};
-ghost use Rattle.plain_tree.specs.Growth.{IsWithin, Refuses};
+ghost use Rattle.tree_nodes.specs.Trees.{size_of, stored_tree};
+ghost use Rattle.tree_nodes.specs.Growth.{IsWithin};
+ghost use Rattle.plain_tree.specs.Refusals.{Refuses};
 ghost use Rattle.plain_tree.specs.declared.limits.TheConstants.{NODE_LIMIT};
 
-use crate::building::list_nodes;
+use crate::children::{child_at, child_count_at};
 use crate::error::PlainError;
 use crate::limits::NODE_LIMIT;
-use crate::names::write_name;
-use crate::node_list::NodeList;
+use crate::plain_list::{PlainList, list_nodes};
 use crate::preorder::list_preorder;
-use crate::reading::{
-    child_at, child_count_at, content_at, content_count_at, facts_at, pending_at,
-};
 use doc_store::DocStore;
 use expanded_tree::{Node, NodeFacts, TileTree};
 use std::alloc::{AllocError, Global};
 use std::marker::Model;
 use tile_types::{Key, Text};
+use tree_nodes::{
+    TablePlace, TableTree, content_at, content_count_at, facts_at, pending_at, table_place_at,
+    write_name,
+};
 
 /// The expanded tree of a store's documents, written out node by node.
 #[derive(Drop)]
 pub struct PlainTree<'a> {
     store: &'a DocStore,
-    list: NodeList,
+    nodes: PlainList,
     /// The nodes that were opened since the last `top`.
     opened: Vec<Node>,
 }
@@ -42,11 +43,11 @@ impl<'a> Model for PlainTree<'a> {
 
     ghost view = { λ t. record {
       store = t.store.now;
-      list = t.list;
+      nodes = t.nodes;
       opened = t.opened.items;
     } };
 
-    ghost invariant = { λ t. IsListed t.store.now t.list };
+    ghost invariant = { λ t. IsListed t.store.now t.nodes };
 }
 
 impl<'a> PlainTree<'a> {
@@ -58,9 +59,9 @@ impl<'a> PlainTree<'a> {
         match list_nodes(alloc, store, None) {
             Err(PlainError::OutOfMemory) => Err(AllocError),
             Err(PlainError::TooLarge) => unreachable!(),
-            Ok(list) => Ok(PlainTree {
+            Ok(nodes) => Ok(PlainTree {
                 store,
-                list,
+                nodes,
                 opened: Vec::new(alloc),
             }),
         }
@@ -70,7 +71,7 @@ impl<'a> PlainTree<'a> {
     pub fn is_whole(&self) -> bool
         ensures { IsTrue result ↔ IsWhole (standing_of self.now).tree }
     {
-        self.list.tables.waiting.is_empty()
+        self.nodes.list.tables.waiting.is_empty()
     }
 
     /// All nodes in preorder.
@@ -80,7 +81,7 @@ impl<'a> PlainTree<'a> {
         ensures trees { IfOk result (λ nodes. map (standing_of self.now).node_tree nodes.items
             ≡ nodes_of (standing_of self.now).tree) }
     {
-        list_preorder(alloc, self.store, &self.list)
+        list_preorder(alloc, self.store, &self.nodes)
     }
 
     /// The tree of the documents, if it has at most 1,048,576 nodes.
@@ -94,9 +95,9 @@ impl<'a> PlainTree<'a> {
     {
         match list_nodes(alloc, store, Some(NODE_LIMIT)) {
             Err(e) => Err(e),
-            Ok(list) => Ok(PlainTree {
+            Ok(nodes) => Ok(PlainTree {
                 store,
-                list,
+                nodes,
                 opened: Vec::new(alloc),
             }),
         }
@@ -114,40 +115,48 @@ impl<'a> TileTree for PlainTree<'a> {
 
     fn top(&mut self, _alloc: Global) -> Result<Option<Node>, AllocError> {
         self.opened.clear();
-        if self.list.nodes.len() == 0 {
+        if self.nodes.list.nodes.len() == 0 {
             return Ok(None);
         }
         Ok(Some(Node { number: 0 }))
     }
 
     fn facts(&self, node: Node) -> NodeFacts {
-        facts_at(self.store, &self.list, node.number)
+        facts_at(self.store, &self.nodes.list, node.number)
     }
 
     fn open_children(&mut self, _alloc: Global, node: Node) -> Result<u32, AllocError> {
         self.opened.push(node)?;
-        Ok(child_count_at(self.store, &self.list, node.number))
+        Ok(child_count_at(self.store, &self.nodes, node.number))
     }
 
     fn child(&self, node: Node, i: u32) -> Node {
         Node {
-            number: child_at(self.store, &self.list, node.number, i),
+            number: child_at(self.store, &self.nodes, node.number, i),
         }
     }
 
     fn content_count(&self, node: Node) -> u32 {
-        content_count_at(self.store, &self.list, node.number)
+        content_count_at(self.store, &self.nodes.list, node.number)
     }
 
     fn content(&self, node: Node, i: u32) -> &Text {
-        content_at(self.store, &self.list, node.number, i)
+        content_at(self.store, &self.nodes.list, node.number, i)
     }
 
     fn pending(&self, node: Node) -> Option<&Key> {
-        pending_at(self.store, &self.list, node.number)
+        pending_at(self.store, &self.nodes.list, node.number)
     }
 
     fn name(&self, alloc: Global, node: Node) -> Result<Text, AllocError> {
-        write_name(alloc, self.store, &self.list, node.number)
+        write_name(alloc, self.store, &self.nodes.list, node.number)
+    }
+}
+
+impl<'a> TableTree for PlainTree<'a> {
+    ghost stored = { λ t. t.store };
+
+    fn table_place(&self, node: Node) -> Option<TablePlace> {
+        table_place_at(self.store, &self.nodes.list, node.number)
     }
 }

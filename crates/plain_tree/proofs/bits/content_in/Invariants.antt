@@ -1,4 +1,0 @@
-use Rattle.plain_tree.proofs.bits.content_in.Given as goal
-
-abbrev pub ghosts-count_content : goal.ghosts-count_content
-ghosts-count_content a = record { name = a.blank.name; parts = a.blank.parts }

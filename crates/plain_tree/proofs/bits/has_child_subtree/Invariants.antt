@@ -1,4 +1,0 @@
-use Rattle.plain_tree.proofs.bits.has_child_subtree.Given as goal
-
-abbrev pub ghosts-count_child_subtree : goal.ghosts-count_child_subtree
-ghosts-count_child_subtree a = record { name = a.blank.name; parts = a.blank.parts }

@@ -1,4 +1,0 @@
-use Rattle.plain_tree.proofs.bits.has_tile.Given as goal
-
-abbrev pub ghosts-count_tile : goal.ghosts-count_tile
-ghosts-count_tile a = record { name = a.blank.name; parts = a.blank.parts }

@@ -1,0 +1,14 @@
+pub mod Trees
+pub mod TreeIn
+pub mod Waits
+pub mod Tiles
+pub mod Found
+pub mod PlaceContents
+pub mod Tops
+pub mod Places
+pub mod Fronts
+pub mod Entries
+pub mod Nodes
+pub mod Growth
+pub mod Names
+pub mod TablePlaces
