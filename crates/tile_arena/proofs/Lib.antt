@@ -1,0 +1,6 @@
+mod Openings
+mod Roots
+mod Rooms
+mod Spares
+mod Steps
+mod Walks
