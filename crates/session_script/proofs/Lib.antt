@@ -1,6 +1,13 @@
+pub mod AsciiViews
+pub mod BehindLines
 pub mod Fields
+pub mod FirstPieces
+pub mod NoLines
 pub mod Numbers
 pub mod Parts
 pub mod PlanesRead
 pub mod Prefixes
+pub mod ReadViews
+pub mod Tallies
 pub mod ViewFields
+pub mod Views

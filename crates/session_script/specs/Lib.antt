@@ -1,3 +1,9 @@
 pub mod Ascii
+pub mod Chains
+pub mod Endings
 pub mod Readers
+pub mod Reading
+pub mod ScriptLines
+pub mod Scripts
+pub mod Views
 pub mod ViewTexts

@@ -12,6 +12,7 @@ ghost use Rattle.session_script.specs.ViewTexts.{IsFractionOf32, IsNumberOf32, I
 ghost use Rattle.session_script.specs.ViewTexts.{IsPointOf64, IsWithinLimits, text_of_fields};
 ghost use Rattle.session_script.specs.ViewTexts.{text_of_fraction, text_of_plane, text_of_point};
 ghost use Rattle.session_script.specs.ViewTexts.{text_of_screen, text_of_view, without_planes};
+ghost use Rattle.session_script.specs.Views.{view_of};
 
 use crate::marks::{cut, first_part};
 use crate::number::number;
@@ -26,6 +27,7 @@ use volumes::Plane;
 /// The view that the text spells, or nothing exactly where it isn't the one spelling of a view
 /// within the limits. Takes no memory.
 pub fn read_view(text: &str) -> Option<View>
+    ensures value { result ≡ view_of text.now }
     ensures found { IfSome result (λ view. text.now ≡ text_of_view view) }
     ensures within { IfSome result (λ view. IsWithinLimits view) }
     ensures spelled { (view : ViewParts) → IsWithinLimits view → text.now ≡ text_of_view view

@@ -3,4 +3,3 @@ pub mod Given
 pub mod Naming
 pub mod OnlyWord
 pub mod PlainWords
-pub mod Views

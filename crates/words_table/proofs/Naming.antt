@@ -2,7 +2,7 @@
 use Rattle.std.proofs.Common.{◌≡◌, ◌∙◌, Bool, false, true, Bor, List, ℕ, ◌∷◌, Option, Some, None, ap, sym, if◌then◌else◌}
 use Rattle.std.specs.List.{list_any}
 use Rattle.clap.proofs.WalkLemmas.{list_any-map}
-use Rattle.words_table.specs.Chains.{◌>>=◌}
+use Rattle.session_script.specs.Chains.{◌>>=◌}
 use Rattle.words_table.specs.Commands.{is_option, name_of, named, texts}
 use Rattle.words_table.specs.declared.command_name.CommandName.{CommandName}
 

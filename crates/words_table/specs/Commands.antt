@@ -5,8 +5,8 @@ use Rattle.std.specs.Borrow.{Bor}
 use Rattle.std.specs.List.{list_any, starts_with}
 use Rattle.std.specs.Result.{result_ok}
 use Rattle.tile_uri.specs.Addresses.{join}
-use Rattle.words_table.specs.Chains.{◌>>=◌}
-use Rattle.words_table.specs.Views.{view_of}
+use Rattle.session_script.specs.Chains.{◌>>=◌}
+use Rattle.session_script.specs.Views.{view_of}
 use Rattle.words_table.specs.declared.command.Command.{Command}
 use Rattle.words_table.specs.declared.command.Command.TheVariants.{Cut, Tiles}
 use Rattle.words_table.specs.declared.command_name.CommandName.{CommandName}

@@ -1,4 +1,2 @@
-pub mod Chains
 pub mod Commands
 pub mod Places
-pub mod Views

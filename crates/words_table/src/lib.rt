@@ -4,14 +4,12 @@
 mod command;
 mod command_name;
 mod error;
-mod law;
 mod places;
 mod word;
 mod words;
 
 pub use command::Command;
 pub use error::WordsError;
-pub use law::views_of_texts;
 pub use words::read_words;
 
 #[cfg(test)]

@@ -168,8 +168,3 @@ fn printed_texts(rt: HostRuntime) -> Result<(), Fail> {
     assert_eq!(rt; text.as_str(), "OutOfMemory: out of memory");
     Ok(())
 }
-
-#[test]
-fn law(_rt: HostRuntime) {
-    views_of_texts();
-}

@@ -2,7 +2,7 @@
 
 ghost use Rattle.std.specs.Prelude.{◌≡◌, ◌≢◌, ◌⊎◌};
 ghost use Rattle.words_table.specs.Commands.{Answers, root_of};
-ghost use Rattle.words_table.specs.Views as views;
+ghost use Rattle.session_script.specs.Views as views;
 
 use crate::error::WordsError;
 use error_test::View;

@@ -8,7 +8,7 @@ use Rattle.fixed_geometry.specs.declared.point.Point.{Point}
 use Rattle.volumes.specs.declared.plane.Plane.{Plane}
 use Rattle.error_test.specs.Views.{ViewParts, field_past_limit, view_parts}
 use Rattle.session_script.specs.ViewTexts.{text_of_view}
-use Rattle.words_table.specs.Chains.{◌>>=◌}
+use Rattle.session_script.specs.Chains.{◌>>=◌}
 
 -- no digit and no `-`
 abbrev pub is_between_numbers : ℕ → Bool

@@ -2,9 +2,9 @@ use Rattle.std.proofs.Common.{◌≡◌, List, ℕ, Some, Option, None}
 use Rattle.std.specs.Prelude.{IfSome}
 use Rattle.error_test.specs.Views.{ViewParts}
 use Rattle.session_script.specs.ViewTexts.{IsWithinLimits, text_of_view}
-use Rattle.words_table.specs.Views.{view_of}
-use Rattle.words_table.proofs.Views.{IsSpelled, text_of_its_view, view_of_text}
-use Rattle.words_table.proofs.law.views_of_texts.Goals as goal
+use Rattle.session_script.specs.Views.{view_of}
+use Rattle.session_script.proofs.Views.{IsSpelled, text_of_its_view, view_of_text}
+use Rattle.session_script.proofs.law.views_of_texts.Goals as goal
 
 as_pair : (text : List ℕ) (view : Option ViewParts) → IfSome view (IsSpelled text)
     → IfSome view (λ v. (text ≡ text_of_view v) × IsWithinLimits v)

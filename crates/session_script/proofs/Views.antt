@@ -23,9 +23,9 @@ use Rattle.session_script.specs.ViewTexts.{IsPlaneOf64, IsWithinLimits, text_of_
 use Rattle.session_script.specs.ViewTexts.{text_of_view}
 use Rattle.session_script.specs.ViewTexts.{text_of_fields, text_of_tangent}
 use Rattle.session_script.proofs.ViewFields.{Fits, text_of_view-is, view_fits}
-use Rattle.words_table.specs.Chains.{◌>>=◌}
-use Rattle.words_table.specs.Views.{is_between_numbers, numbers_in, planes_of, spells, view_of}
-use Rattle.words_table.specs.Views.{view_of_numbers}
+use Rattle.session_script.specs.Chains.{◌>>=◌}
+use Rattle.session_script.specs.Views.{is_between_numbers, numbers_in, planes_of, spells, view_of}
+use Rattle.session_script.specs.Views.{view_of_numbers}
 
 own : IsNumeralModel (AllDigits 10) (digits_value 10)
 own = numerals_by_value (AllDigits 10) tells_digits
