@@ -1,0 +1,11 @@
+pub mod State
+pub mod Views
+pub mod Frames
+pub mod Loading
+pub mod Room
+pub mod Allowed
+pub mod After
+pub mod Journal
+pub mod Report
+pub mod Agreement
+pub mod Laws
