@@ -1,14 +1,14 @@
 -- What a run ends with, from its steps.
-use Rattle.std.proofs.Common.{◌≡◌, ◌∙◌, ◌+◌, ℕ, List, [], ◌∷◌, All, ap, arith, inl, inr, length, refl, subst, sym}
+use Rattle.std.proofs.Common.{◌≡◌, ◌∙◌, ◌+◌, ℕ, List, [], ◌∷◌, All, ap, arith, inl, inr, length, subst, sym}
 use Rattle.std.proofs.lemmas.List.Elements.{All-head, All-nil, All-same}
 use Rattle.source_port.specs.Counts.{count_after}
 use Rattle.doc_store.specs.Docs.{Loaded, tileset_key}
 use Rattle.doc_store.specs.Store.{Stored}
-use Rattle.plain_tree.specs.Trees.{stored_tree}
+use Rattle.tree_nodes.specs.Trees.{stored_tree}
 use Rattle.words_table.specs.declared.command.Command.{Command}
 use Rattle.stream_cli.specs.Awaited.{WasAwaited}
 use Rattle.stream_cli.specs.Contents.{AreFetched, FetchedContent, WasGiven, bytes_in}
-use Rattle.stream_cli.specs.Loading.{Fetches, IsFetched, IsReached, Loads, WasFetched, asked_for, root_of}
+use Rattle.stream_cli.specs.Loading.{Fetches, IsReached, Loads, WasFetched, asked_for, root_of}
 use Rattle.stream_cli.specs.Looks.{Asked, EndsLook, IsIdle, OfCommand, Shows}
 use Rattle.stream_cli.specs.Printing.{GainsAtMost, GainsLines, GainsSome, IsPrintCause}
 use Rattle.stream_cli.specs.Runs.{Ends, IsLoadedFor}
@@ -142,11 +142,12 @@ pub looks_behind : (command : Command) (s t u : SourceSide) (a b : Stored) (out 
     (U : Type 0) (cause : Cause) → t.library ≡ s.library
     → LoadsOn (run_between s t) (WasAwaited command b) a b
     → EndsLook (OfCommand command (stored_tree b)) (run_between t u) 0 out U cause
-    → LooksBehind command (run_between s u) a b out U cause
+    → LooksBehind command (run_between s u) a out U cause
 looks_behind command s t u a b out U cause same loads ends =
     let asked = OfCommand command (stored_tree b) in
     let e : loads.more + 0 ≡ loads.more = omega arith in
     record {
+      new = b;
       more = loads.more;
       asks = loads.asks;
       ends =
@@ -276,15 +277,16 @@ look_ends command source store out U cause.Listing loads ends = (
   ends.2,
 )
 
-pub rounds_end : (command : Command) (s t u : SourceSide) (a b : Stored) (out : OutRun)
+pub rounds_end : (command : Command) (s t u : SourceSide) (a : Stored) (out : OutRun)
     (U : Type 0) (cause : Cause) → t.library ≡ s.library → Loads command s.library a
     → Fetches (run_between s t) (asked_for a) → Stays (run_between s t).faults
-    → EndsRounds command (run_between t u) a b out U cause
+    → EndsRounds command (run_between t u) a out U cause
     → Ends command (run_between s u) out U cause
-rounds_end command s t u a b out U cause same loads fetched unfailed ends = elim ends [
+rounds_end command s t u a out U cause same loads fetched unfailed ends = elim ends [
   | inl stopped ↦ load_ends command (run_between s u) a out U cause loads stopped.1
       (stops_behind s t u (asked_for a) cause fetched unfailed stopped.0)
   | inr looked ↦
+      let b = looked.new in
       let asked = OfCommand command (stored_tree b) in
       let asks = subst (λ library. AsksFor library (WasAwaited command b) a b looked.more) same
       looked.asks in

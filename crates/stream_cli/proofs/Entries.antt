@@ -1,5 +1,5 @@
 -- Keys of entries.
-use Rattle.std.proofs.Common.{◌≡◌, Bool, true, false, Option, Some, None, List, [], ◌∷◌, map, cond, ◌||◌}
+use Rattle.std.proofs.Common.{◌≡◌, Bool, true, false, Some, None, List, [], ◌∷◌, map, cond, ◌||◌}
 use Rattle.std.proofs.Common.{refl}
 use Rattle.std.specs.Option.{is_some}
 use Rattle.std.specs.List.{list_any}

@@ -6,7 +6,7 @@ use Rattle.std.specs.List.{list_any}
 use Rattle.std.specs.Cmp.Lexicographic.{same_text}
 use Rattle.std.proofs.lemmas.List.Elements.{All-head, All-tail, All-nil, All-cons}
 use Rattle.std.proofs.lemmas.List.Folds.{list_any-append}
-use Rattle.source_port.specs.Library.{Library, bytes_at}
+use Rattle.source_port.specs.Library.{Library}
 use Rattle.content_digest.specs.declared.limits.TheConstants.{CONTENT_LIMIT}
 use Rattle.cut_core.specs.declared.line.CutLine.{CutLine}
 use Rattle.tree_expansion.specs.Whole.{if_within}

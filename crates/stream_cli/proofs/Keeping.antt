@@ -1,11 +1,11 @@
 -- What is kept of contents, as they are fetched one behind another, and the text that it gives.
-use Rattle.std.proofs.Common.{◌≡◌, ℕ, ◌+◌, ◌<◌, Bool, true, false, Option, Some, None, List, [], ◌∷◌, ◌++◌, length, map, filter, fold, take, All, get_or}
+use Rattle.std.proofs.Common.{◌≡◌, ℕ, ◌+◌, true, false, Option, Some, None, List, [], ◌∷◌, ◌++◌, length, map, filter, take}
 use Rattle.std.proofs.Common.{refl, sym, ap, ◌∙◌, bytes_eq, cond, length-append, option_map, subst}
 use Rattle.std.specs.Map.{lookup}
 use Rattle.std.specs.Option.{option_and_then}
 use Rattle.std.specs.Prelude.{if◌then◌else◌}
-use Rattle.std.specs.List.{flat_map, list_any, slice_get}
-use Rattle.std.proofs.lemmas.List.{length-map, map-append}
+use Rattle.std.specs.List.{list_any, slice_get}
+use Rattle.std.proofs.lemmas.List.{map-append}
 use Rattle.std.proofs.lemmas.List.Elements.{All-nil, All-push}
 use Rattle.std.proofs.lemmas.List.Sums.{fold-append}
 use Rattle.source_port.specs.Counts.{count_after}
@@ -13,9 +13,9 @@ use Rattle.content_digest.specs.Facts.{facts_of}
 use Rattle.content_digest.specs.declared.facts.ContentFacts.{ContentFacts}
 use Rattle.cut_core.specs.declared.line.CutLine.{CutLine}
 use Rattle.cut_core.proofs.Lists.{taken}
-use Rattle.stream_cli.specs.Contents.{AreFetched, Contents, FetchedContent, GivesContent, WasGiven, addresses_in, bytes_in, each_once, with_address}
-use Rattle.stream_cli.specs.Kept.{Kept, KeepsFetched, KeepsOne, facts_at, keeps, kept_line, kept_lines, kept_of, kept_text, lines_there}
-use Rattle.stream_cli.specs.Report.{content_line, count_line, cut_text}
+use Rattle.stream_cli.specs.Contents.{Contents, FetchedContent, GivesContent, WasGiven, addresses_in, bytes_in, each_once, with_address}
+use Rattle.stream_cli.specs.Kept.{Kept, KeepsFetched, KeepsOne, facts_at, keeps, kept_lines, kept_of, kept_text, lines_there}
+use Rattle.stream_cli.specs.Report.{content_line, cut_text}
 use Rattle.stream_cli.proofs.Counting.{counts_behind}
 use Rattle.stream_cli.proofs.Lacking.{is_there}
 use Rattle.stream_cli.proofs.Loads.{SourceSide, run_between}

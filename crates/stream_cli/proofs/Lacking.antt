@@ -1,6 +1,6 @@
 -- Lines of absent contents: an ideal cut leaves out these and nothing else, where no visited node is
 -- pending.
-use Rattle.std.proofs.Common.{◌≡◌, ℕ, Bool, true, false, not, is_none, Option, Some, None, List, [], ◌∷◌, ◌++◌, filter, map}
+use Rattle.std.proofs.Common.{◌≡◌, ℕ, Bool, false, not, is_none, Option, Some, None, List, [], ◌∷◌, ◌++◌, filter, map}
 use Rattle.std.proofs.Common.{refl, sym, ap, ◌∙◌}
 use Rattle.std.specs.List.{flat_map}
 use Rattle.std.specs.Option.{is_some}

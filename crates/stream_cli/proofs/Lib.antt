@@ -12,4 +12,4 @@ mod Prefixes
 mod Puts
 mod Refusals
 mod Showing
-mod Waiting
+mod GivenWords

@@ -16,7 +16,7 @@ use Rattle.tree_expansion.specs.Whole.{AgreesWith, document_of, full, if_within}
 use Rattle.tree_expansion.proofs.Unseen.{cut_is_full}
 use Rattle.tree_expansion.proofs.Wholes.{whole_is_full}
 use Rattle.cut_core.specs.Cut.{ideal, with_all}
-use Rattle.plain_tree.specs.Trees.{root_address, stored_tree}
+use Rattle.tree_nodes.specs.Trees.{root_address, stored_tree}
 use Rattle.words_table.specs.declared.command.Command.{Command}
 use Rattle.words_table.specs.declared.command.Command.TheVariants.{Cut, Tiles}
 use Rattle.stream_cli.specs.Awaited.{nothing_absent}

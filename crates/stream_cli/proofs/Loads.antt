@@ -8,10 +8,10 @@ use Rattle.source_port.specs.Counts.{count_after, next_count}
 use Rattle.source_port.specs.Library.{Library}
 use Rattle.doc_store.specs.Docs.{Loaded, tileset_key}
 use Rattle.doc_store.specs.Store.{Stored, IsFull, total_bytes, with_document}
-use Rattle.plain_tree.specs.Trees.{stored_tree}
+use Rattle.tree_nodes.specs.Trees.{stored_tree}
 use Rattle.words_table.specs.declared.command.Command.{Command}
 use Rattle.stream_cli.specs.Awaited.{IsEarlier, WasAwaited, awaited}
-use Rattle.stream_cli.specs.Loading.{Fetches, IsFault, IsFetched, IsGone, IsLoadedFrom, Loads, Opens, WasFetched, asked_for, root_of}
+use Rattle.stream_cli.specs.Loading.{Fetches, IsFault, IsFetched, IsGone, Loads, Opens, WasFetched, asked_for, root_of}
 use Rattle.stream_cli.specs.Looks.{IsIdle}
 use Rattle.stream_cli.specs.Sides.{SourceRun, Stays}
 use Rattle.stream_cli.specs.Steps.{AsksFor, IsLoadCause, LoadsOn}

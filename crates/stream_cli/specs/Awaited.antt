@@ -9,7 +9,7 @@ use Rattle.cut_core.specs.Wants.{key_list, wanted}
 use Rattle.doc_store.specs.Docs.{Loaded}
 use Rattle.doc_store.specs.Store.{Stored}
 use Rattle.plain_tree.specs.Preorder.{nodes_of}
-use Rattle.plain_tree.specs.Trees.{stored_tree}
+use Rattle.tree_nodes.specs.Trees.{stored_tree}
 use Rattle.words_table.specs.declared.command.Command.{Command}
 use Rattle.words_table.specs.declared.command.Command.TheVariants.{Cut, Tiles}
 

@@ -1,11 +1,13 @@
 -- What a look at the tree of the loaded documents leaves.
-use Rattle.std.specs.Prelude.{ℕ, ◌≡◌, ◌⊎◌, ◌+◌, ◌<◌, List, [], length, Option}
+use Rattle.std.specs.Prelude.{ℕ, ◌≡◌, ◌⊎◌, ◌+◌, ◌<◌, List, [], length, Option, Result, Ok, Err}
+use Rattle.std.specs.Global.{Vec}
 use Rattle.tile_types.specs.declared.key.Key.{Key}
+use Rattle.doc_store.specs.Store.{Stored}
 use Rattle.error_test.specs.Views.{ViewParts}
 use Rattle.expanded_tree.specs.Tree.{Tree}
 use Rattle.cut_core.specs.Cut.{ideal}
 use Rattle.cut_core.specs.Visits.{VisitsTooMany}
-use Rattle.plain_tree.specs.Trees.{size_of}
+use Rattle.tree_nodes.specs.Trees.{size_of}
 use Rattle.plain_tree.specs.declared.limits.TheConstants.{NODE_LIMIT}
 use Rattle.words_table.specs.declared.command.Command.{Command}
 use Rattle.stream_cli.specs.Awaited.{awaited, awaited_anywhere, awaited_in_view}
@@ -97,7 +99,14 @@ EndsLook asked source before out unprinted cause.Listing =
     asked.many_nodes × IsIdle source before × unprinted
 EndsLook asked source before out unprinted _ = ⊥
 
-abbrev pub Looks : Asked → SourceRun → OutRun → Type 0 → Look → Type 0
-Looks asked source out unprinted (Awaits keys) =
+-- what was found: nothing was printed, since these keys are awaited; or how the look ends
+abbrev pub Finds : Asked → SourceRun → OutRun → Type 0 → Result (Vec Key) Cause → Type 0
+Finds asked source out unprinted (Ok keys) =
     IsIdle source 0 × unprinted × (keys.items ≡ asked.awaited)
-Looks asked source out unprinted (Ended cause) = EndsLook asked source 0 out unprinted cause
+Finds asked source out unprinted (Err cause) = EndsLook asked source 0 out unprinted cause
+
+-- a look at the documents of this store, which it gives back where it waits
+abbrev pub Looks : Asked → Stored → SourceRun → OutRun → Type 0 → Look → Type 0
+Looks asked store source out unprinted (Awaits keys given_back) =
+    Finds asked source out unprinted (Ok keys) × (given_back ≡ store)
+Looks asked store source out unprinted (Ended cause) = Finds asked source out unprinted (Err cause)

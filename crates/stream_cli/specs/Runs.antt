@@ -10,7 +10,7 @@ use Rattle.tree_expansion.specs.Whole.{IsWhole, document_of, full, whole_docs}
 use Rattle.cut_core.specs.Cut.{ideal}
 use Rattle.cut_core.specs.Laws.{IsLoaded}
 use Rattle.cut_core.specs.Visits.{IsWithinLimit, VisitsTooMany}
-use Rattle.plain_tree.specs.Trees.{stored_tree, size_of}
+use Rattle.tree_nodes.specs.Trees.{stored_tree, size_of}
 use Rattle.plain_tree.specs.declared.limits.TheConstants.{NODE_LIMIT}
 use Rattle.words_table.specs.Commands.{command_of}
 use Rattle.words_table.specs.declared.command.Command.{Command}

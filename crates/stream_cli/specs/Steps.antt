@@ -7,7 +7,7 @@ use Rattle.words_table.specs.declared.command.Command.{Command}
 use Rattle.error_test.specs.Views.{ViewParts}
 use Rattle.expanded_tree.specs.Tree.{Tree}
 use Rattle.cut_core.specs.Visits.{VisitsTooMany}
-use Rattle.plain_tree.specs.Trees.{stored_tree}
+use Rattle.tree_nodes.specs.Trees.{stored_tree}
 use Rattle.tileset_schema.specs.Documents.{document}
 use Rattle.stream_cli.specs.Awaited.{IsEarlier, WasAwaited}
 use Rattle.stream_cli.specs.Loading.{Fetches, IsAbsent, IsFault, IsLoadedFrom, IsRefused, IsShort, asked_for}
@@ -67,15 +67,16 @@ IsVisitCause view root _ = ⊥
 -- ---- the rounds
 
 -- so many documents were loaded, and a look at their tree ended so
-pub record LooksBehind (command : Command) (source : SourceRun) (old new : Stored) (out : OutRun)
+pub record LooksBehind (command : Command) (source : SourceRun) (old : Stored) (out : OutRun)
     (unprinted : Type 0) (cause : Cause) : Type 0 where
+  pub new : Stored
   pub more : ℕ
   pub asks : AsksFor source.library (WasAwaited command new) old new more
   pub ends : EndsLook (OfCommand command (stored_tree new)) source more out unprinted cause
 
 -- how the rounds of a command end: loading stopped, and the output is as it was; or documents were
 -- loaded, and a look at their tree ended so
-abbrev pub EndsRounds : Command → SourceRun → Stored → Stored → OutRun → Type 0 → Cause → Type 0
-EndsRounds command source old new out unprinted cause =
+abbrev pub EndsRounds : Command → SourceRun → Stored → OutRun → Type 0 → Cause → Type 0
+EndsRounds command source old out unprinted cause =
     (IsLoadCause source cause × unprinted)
-    ⊎ LooksBehind command source old new out unprinted cause
+    ⊎ LooksBehind command source old out unprinted cause

@@ -1,7 +1,7 @@
 //! The commands, a file for each: which documents one waits for, and what it prints.
 
 ghost use Rattle.std.specs.Prelude.{◌≡◌};
-ghost use Rattle.plain_tree.specs.Trees.{stored_tree};
+ghost use Rattle.tree_nodes.specs.Trees.{stored_tree};
 ghost use Rattle.stream_cli.specs.Looks.{Looks, OfCommand};
 ghost use Rattle.stream_cli.specs.Loading.{root_of};
 ghost use Rattle.stream_cli.specs.Sides.{out_run, source_run};
@@ -26,16 +26,17 @@ pub fn root_of(command: &Command) -> &Address
     }
 }
 
-/// Looks at the tree of the loaded documents: prints what a command asks for of it, or says which
-/// documents that waits for. What is printed of contents is fetched first.
+/// Looks at the tree of the loaded documents: prints what a command asks for of it, or gives the
+/// documents back and says which further ones that waits for. What is printed of contents is fetched
+/// first.
 pub fn look<S: Source, W: Sink>(
     alloc: Global,
     command: &Command,
-    store: &DocStore,
+    store: DocStore,
     source: &mut S,
     out: &mut W,
 ) -> Look
-    ensures looks { Looks (OfCommand command.now (stored_tree store.now))
+    ensures looks { Looks (OfCommand command.now (stored_tree store)) store
         (source_run S.library S.faults S.fetches source.old source.new)
         (out_run W.written W.faults W.puts out.old out.new) (out.new ≡ out.old) result }
     ensures library { S.library source.new ≡ S.library source.old }

@@ -20,8 +20,7 @@ mod run;
 #[cfg(test)]
 mod tests;
 
-use crate::ended::Ended;
-use crate::program::{finish, read_arguments, run_arguments};
+use crate::program::{finish, run_given};
 use source_port::{DirSource, StdSink};
 use std::env;
 use std::io::Write;
@@ -41,9 +40,6 @@ fn run_program<R: Runtime + AllocGlobal + Threads + Sync, E: Write>(
 ) -> ExitCode {
     let mut source = DirSource::new(rt);
     let mut out = StdSink::new(rt);
-    let ended = match read_arguments(rt.alloc(), env::args(rt)) {
-        Ok(arguments) => run_arguments(rt, rt.alloc(), &arguments, &mut source, &mut out),
-        Err(cause) => Ended::by(cause),
-    };
+    let ended = run_given(rt, rt.alloc(), env::args(rt), &mut source, &mut out);
     finish(rt.alloc(), &ended, errors).code
 }

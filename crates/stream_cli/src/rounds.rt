@@ -19,21 +19,27 @@ pub fn run_rounds<S: Source, W: Sink>(
     alloc: Global,
     command: &Command,
     source: &mut S,
-    store: &mut DocStore,
+    mut store: DocStore,
     out: &mut W,
 ) -> Cause
     ensures ends { EndsRounds command.now
-        (source_run S.library S.faults S.fetches source.old source.new) store.old store.new
+        (source_run S.library S.faults S.fetches source.old source.new) store
         (out_run W.written W.faults W.puts out.old out.new) (out.new ≡ out.old) result }
     ensures library { S.library source.new ≡ S.library source.old }
 {
     // Each round asks for a document of which nothing was known, and no store holds 2^64 of them.
     for _ in 0..u64::MAX {
         let keys = match look(alloc, command, store, source, out) {
-            Look::Awaits(keys) => keys,
+            Look::Awaits {
+                keys,
+                store: given_back,
+            } => {
+                store = given_back;
+                keys
+            }
             Look::Ended(cause) => return cause,
         };
-        match load_all(alloc, keys.as_slice(), source, store) {
+        match load_all(alloc, keys.as_slice(), source, &mut store) {
             Ok(()) => {}
             Err(cause) => return cause,
         }

@@ -60,7 +60,7 @@ fn run_command<S: Source, W: Sink>(
     ensures library { S.library source.new ≡ S.library source.old }
 {
     match open_store(alloc, root_of(command), source) {
-        Ok(mut store) => run_rounds(alloc, command, source, &mut store, out),
+        Ok(store) => run_rounds(alloc, command, source, store, out),
         Err(cause) => cause,
     }
 }

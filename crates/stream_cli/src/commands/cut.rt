@@ -1,13 +1,14 @@
 //! The command `cut`.
 
-ghost use Rattle.std.specs.Prelude.{◌≡◌, IfErr, IfOk, IfSome, None, map};
-ghost use Rattle.cut_core.specs.Laws.{IsLoaded};
-ghost use Rattle.plain_tree.specs.Standing.{standing_of};
-ghost use Rattle.plain_tree.specs.Trees.{stored_tree};
-ghost use Rattle.stream_cli.specs.Awaited.{awaited_in_view};
+ghost use Rattle.std.specs.Prelude.{◌≡◌, IfOk, Option, map};
+ghost use Rattle.cut_core.specs.Cut.{ideal};
+ghost use Rattle.error_test.specs.Views.{ViewParts};
+ghost use Rattle.expanded_tree.specs.Tree.{Tree};
+ghost use Rattle.tree_nodes.specs.Trees.{stored_tree};
+ghost use Rattle.stream_cli.specs.Awaited.{nothing_absent};
 ghost use Rattle.stream_cli.specs.Looks.{EndsLook, Looks, OfCut};
+ghost use Rattle.stream_cli.specs.Runs.{IsSeen};
 ghost use Rattle.stream_cli.specs.Sides.{out_run, source_run};
-ghost use Rattle.stream_cli.specs.Steps.{IsVisitCause};
 
 use crate::cause::Cause;
 use crate::everything::EverythingThere;
@@ -15,64 +16,41 @@ use crate::fetching::fetch_contents;
 use crate::look::Look;
 use crate::printing::cause_of;
 use crate::report::print_cut;
-use cut_core::{ideal, want};
+use cut_core::{CutList, Sight, ideal_or_want};
 use doc_store::DocStore;
 use error_test::View;
-use plain_tree::PlainTree;
 use source_port::{Sink, Source};
 use std::alloc::{AllocError, Global};
+use tile_arena::Arena;
 use tile_types::{Key, WantList};
 
 /// Fetches the contents of the ideal cut of a view and prints it, or says which documents the
-/// visited nodes wait for.
+/// visited nodes wait for. One walk tells which, and makes the nodes that it visits alone.
 pub(crate) fn look<S: Source, W: Sink>(
     alloc: Global,
     view: &View,
-    store: &DocStore,
+    store: DocStore,
     source: &mut S,
     out: &mut W,
 ) -> Look
-    ensures looks { Looks (OfCut view.now (stored_tree store.now))
+    ensures looks { Looks (OfCut view.now (stored_tree store)) store
         (source_run S.library S.faults S.fetches source.old source.new)
         (out_run W.written W.faults W.puts out.old out.new) (out.new ≡ out.old) result }
     ensures library { S.library source.new ≡ S.library source.old }
 {
-    let Ok(mut tree) = PlainTree::build_whole(alloc, store) else {
+    let Ok(mut arena) = Arena::new(alloc, store) else {
         return Look::Ended(Cause::Memory);
     };
-    // A tree of which no node waits needs no walk to tell which visited nodes do.
-    if tree.is_whole() {
-        return Look::Ended(print_ideal(alloc, view, &mut tree, source, out));
-    }
-    match keys_awaited(alloc, view, &mut tree) {
-        Ok(None) => Look::Ended(print_ideal(alloc, view, &mut tree, source, out)),
-        Ok(Some(keys)) => Look::Awaits(keys),
-        Err(cause) => Look::Ended(cause),
-    }
-}
-
-/// The keys that visited nodes wait for, in preorder, or None where they wait for none.
-fn keys_awaited(
-    alloc: Global,
-    view: &View,
-    tree: &mut PlainTree<'_>,
-) -> Result<Option<Vec<Key>>, Cause>
-    ensures loaded { result ≡ Ok None → IsLoaded view.now (standing_of tree.old).tree }
-    ensures keys { IfOk result (λ keys. IfSome keys (λ keys.
-        keys.items ≡ awaited_in_view view.now (standing_of tree.old).tree)) }
-    ensures refused { IfErr result (IsVisitCause view.now (standing_of tree.old).tree) }
-    ensures tree { (standing_of tree.new).tree ≡ (standing_of tree.old).tree }
-{
-    let wants = match want(alloc, tree, &EverythingThere, view) {
-        Ok(wants) => wants,
-        Err(error) => return Err(Cause::of_walk(error)),
-    };
-    if wants.is_empty() {
-        return Ok(None);
-    }
-    match keys_of(alloc, &wants) {
-        Ok(keys) => Ok(Some(keys)),
-        Err(_) => Err(Cause::Memory),
+    match ideal_or_want(alloc, &mut arena, &EverythingThere, view) {
+        Ok(Sight::Lines(lines)) => Look::Ended(print_ideal(alloc, &lines, source, out)),
+        Ok(Sight::Awaits(wants)) => match keys_of(alloc, &wants) {
+            Ok(keys) => Look::Awaits {
+                keys,
+                store: arena.into_store(),
+            },
+            Err(_) => Look::Ended(Cause::Memory),
+        },
+        Err(error) => Look::Ended(Cause::of_walk(error)),
     }
 }
 
@@ -92,21 +70,17 @@ fn keys_of(alloc: Global, wants: &WantList) -> Result<Vec<Key>, AllocError>
 /// every content there finds them, and the lines of absent contents are left out.
 fn print_ideal<S: Source, W: Sink>(
     alloc: Global,
-    view: &View,
-    tree: &mut PlainTree<'_>,
+    lines: &CutList,
     source: &mut S,
     out: &mut W,
 ) -> Cause
-    requires { IsLoaded view.now (standing_of tree.old).tree }
-    ensures ends { EndsLook (OfCut view.now (standing_of tree.old).tree)
+    ensures ends { (view : ViewParts) (root : Option Tree)
+        → lines.now ≡ ideal view nothing_absent root → IsSeen view root
+        → EndsLook (OfCut view root)
         (source_run S.library S.faults S.fetches source.old source.new) 0
         (out_run W.written W.faults W.puts out.old out.new) (out.new ≡ out.old) result }
     ensures library { S.library source.new ≡ S.library source.old }
 {
-    let lines = match ideal(alloc, tree, &EverythingThere, view) {
-        Ok(lines) => lines,
-        Err(error) => return Cause::of_walk(error),
-    };
     match fetch_contents(alloc, lines.as_slice(), source) {
         Ok(contents) => cause_of(print_cut(alloc, lines.as_slice(), &contents, out), out),
         Err(cause) => cause,

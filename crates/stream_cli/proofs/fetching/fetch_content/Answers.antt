@@ -1,4 +1,4 @@
-use Rattle.std.proofs.Common.{◌≡◌, ◌∙◌, Err, None, Some, ap, refl, subst, sym}
+use Rattle.std.proofs.Common.{◌∙◌, Err, None, Some, ap, refl, subst, sym}
 use Rattle.source_port.specs.Fetches.{Answers}
 use Rattle.source_port.specs.Library.{HasBytes}
 use Rattle.content_digest.specs.Facts.{facts_of}

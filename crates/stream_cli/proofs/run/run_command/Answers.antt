@@ -11,7 +11,7 @@ returns-in-Ok-clause-ends g c =
     (run_between (side c.args.source.now) (side c.open_store.new.source)) c.in-Ok.store =
     rw c.root_of.ensures at c.in-Ok.ensures.opened in
     rounds_end command (side c.args.source.now) (side c.open_store.new.source)
-    (side c.run_rounds.new.source) c.in-Ok.store c.run_rounds.new.store _ _ c.run_rounds.result
+    (side c.run_rounds.new.source) c.in-Ok.store _ _ c.run_rounds.result
     c.in-Ok.ensures.library
     (loads_root command (run_between (side c.args.source.now) (side c.open_store.new.source))
     c.in-Ok.store opens)

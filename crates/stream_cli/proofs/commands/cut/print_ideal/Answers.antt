@@ -1,5 +1,4 @@
-use Rattle.std.proofs.Common.{◌≡◌, ◌∙◌, refl}
-use Rattle.plain_tree.specs.Standing.{standing_of}
+use Rattle.std.proofs.Common.{◌≡◌, refl}
 use Rattle.stream_cli.specs.Contents.{addresses_in}
 use Rattle.stream_cli.specs.Kept.{KeepsFetched, kept_text}
 use Rattle.stream_cli.specs.Printing.{PutsLines}
@@ -8,11 +7,10 @@ use Rattle.stream_cli.proofs.Puts.{print_cause}
 use Rattle.stream_cli.proofs.Showing.{cut_shown}
 use Rattle.stream_cli.proofs.commands.cut.print_ideal.Goals as goal
 
-pub returns-in-Ok-fetch_contents-clause-ends : goal.returns-in-Ok-fetch_contents-clause-ends
-returns-in-Ok-fetch_contents-clause-ends g c =
-    let root = (standing_of c.args.tree.now).tree in
-    let lines = c.in-Ok.lines in
-    let kept = c.in-Ok-fetch_contents.contents in
+pub returns-in-Ok-clause-ends : goal.returns-in-Ok-clause-ends
+returns-in-Ok-clause-ends g c = λ view root e seen.
+    let lines = c.args.lines.now in
+    let kept = c.in-Ok.contents in
     let new = c.print_cut.new.out in
     let old = c.args.out.now in
     let out = out_run g.W.Sink.written g.W.Sink.faults g.W.Sink.puts old new in
@@ -20,11 +18,10 @@ returns-in-Ok-fetch_contents-clause-ends g c =
     source_run g.S.LibraryName.library g.S.Source.faults g.S.Source.fetches c.args.source.now
     c.fetch_contents.new.source in
     let fetched : KeepsFetched source (addresses_in lines) kept =
-    rw c.as_slice.ensures at c.in-Ok-fetch_contents.ensures.kept in
+    rw c.as_slice.ensures at c.in-Ok.ensures.kept in
     let puts : PutsLines c.print_cut.result out (kept_text kept lines) =
-    rw c.as_slice-in-Ok-fetch_contents.ensures at c.print_cut.ensures in
-    cut_shown c.args.view.now root source kept lines c.in-Ok.ensures.lines
-    (record { few = c.in-Ok.ensures.walk.ends.within; loaded = c.requires }) fetched out
+    rw c.as_slice-in-Ok.ensures at c.print_cut.ensures in
+    cut_shown view root source kept lines e seen fetched out
     (new ≡ old) c.cause_of.result
     (print_cause c.print_cut.result _ c.cause_of.result out (kept_text kept lines) refl
     c.cause_of.ensures puts)

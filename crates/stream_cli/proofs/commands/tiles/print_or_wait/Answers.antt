@@ -1,11 +1,11 @@
 use Rattle.std.proofs.Common.{◌≡◌, ◌≤◌, subst, sym}
 use Rattle.plain_tree.specs.Standing.{standing_of}
-use Rattle.plain_tree.specs.Trees.{size_of}
+use Rattle.tree_nodes.specs.Trees.{size_of}
 use Rattle.plain_tree.specs.declared.limits.TheConstants.{NODE_LIMIT}
 use Rattle.stream_cli.specs.Looks.{EndsLook, OfTiles}
 use Rattle.stream_cli.specs.Sides.{out_run}
 use Rattle.stream_cli.proofs.Showing.{tiles_shown}
-use Rattle.stream_cli.proofs.commands.tiles.look.Goals as goal
+use Rattle.stream_cli.proofs.commands.tiles.print_or_wait.Goals as goal
 
 pub returns-then-is_whole : goal.returns-then-is_whole
 returns-then-is_whole g c = λ source idle.
