@@ -59,13 +59,20 @@ pub record SteadyParts : Type 0 where
 abbrev pub new_steady : Library → SteadyParts
 new_steady files = record { files = files; fetched = 0 }
 
--- the fetch answered so, unless memory ran out
+-- these are the bytes that were asked for, and only they take memory
+abbrev pub is_found : Answer → Bool
+is_found (found bytes) = true
+is_found missing = false
+is_found too_long = false
+is_found failed = false
+
+-- the fetch answered so, or memory ran out for the bytes that it found
 abbrev pub Gives : Result (Unit {0}) FetchError → List ℕ → Answer → Type 0
 Gives (Ok done) into answer = answer ≡ found into
 Gives (Err fetches.Missing) into answer = answer ≡ missing
 Gives (Err fetches.TooLong) into answer = answer ≡ too_long
 Gives (Err fetches.Failed) into answer = answer ≡ failed
-Gives (Err fetches.OutOfMemory) into answer = Unit {0}
+Gives (Err fetches.OutOfMemory) into answer = is_found answer ≡ true
 
 -- a fetch takes a number, unless memory ran out: the source is then this one
 abbrev pub TakesNumber : {S : Type 0} → Result (Unit {0}) FetchError → S → S → S → Type 0
@@ -95,8 +102,8 @@ after_put sink piece = record sink { bytes = sink.bytes ++ piece; puts = next_co
 abbrev pub after_failed_put : SinkParts → SinkParts
 after_failed_put sink = record sink { puts = next_count sink.puts; faults = next_count sink.faults }
 
--- exactly the puts with those numbers fail; a put that finds no memory takes no number
+-- exactly the puts with those numbers fail; a put that finds no memory is none of them, and takes no number
 abbrev pub Puts : Result (Unit {0}) PutError → SinkParts → SinkParts → List ℕ → Type 0
 Puts (Ok done) old new piece = (put_fails old ≡ false) × (new ≡ after_put old piece)
 Puts (Err puts.SinkFailed) old new piece = (put_fails old ≡ true) × (new ≡ after_failed_put old)
-Puts (Err puts.OutOfMemory) old new piece = new ≡ old
+Puts (Err puts.OutOfMemory) old new piece = (put_fails old ≡ false) × (new ≡ old)

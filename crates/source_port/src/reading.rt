@@ -1,6 +1,6 @@
 //! Reading a file or any other reader whole, within a limit, and what is answered where that fails.
 
-ghost use Rattle.std.specs.Prelude.{◌≡◌, ◌≢◌, ◌<◌, ◌≤◌, Err, IfErr, IfOk, IfSome, Ok, length};
+ghost use Rattle.std.specs.Prelude.{◌≡◌, ◌≢◌, ◌<◌, ◌≤◌, Err, IfErr, IfOk, IfSome, IsOk, Ok, length};
 ghost use Rattle.std.specs.Fs.{IsFile, file_type, metadata_len};
 ghost use Rattle.std.specs.IoError.{error_kind};
 ghost use Rattle.source_port.specs.Opening.{IsOpeningCause, IsReadingCause, RefusesOpening};
@@ -87,6 +87,16 @@ pub(crate) fn read_within<R: Read + Drop>(
     if let Err(error) = front.read_to_end(&mut bytes) {
         return Err(reading_cause(&error));
     }
+    within_limit(bytes, limit)
+}
+
+/// The bytes, if there are at most `limit` of them. It takes no memory.
+fn within_limit(bytes: Vec<u8>, limit: u32) -> Result<Vec<u8>, FetchError>
+    ensures ok { IfOk result (λ kept.
+        (kept.items ≡ bytes.items) × (length bytes.items ≤ limit)) }
+    ensures within { length bytes.items ≤ limit → IsOk result }
+    ensures too_long { IfErr result (λ e. e ≡ FetchError.TooLong) }
+{
     if bytes.len() > limit as usize {
         return Err(FetchError::TooLong);
     }
