@@ -18,6 +18,7 @@ pub struct FirstContent {
 }
 
 impl FirstContent {
+    /// No content: an empty text takes the place of the address.
     pub fn absent(alloc: Global) -> Result<FirstContent, AllocError>
         ensures value { IfOk result (λ first. first_in first ≡ []) }
         ensures is { IfOk result (λ first. IsFirst first.kind first.text) }
@@ -28,6 +29,7 @@ impl FirstContent {
         })
     }
 
+    /// The content at an address, an external tileset or the tile's own.
     pub fn of(address: Address) -> FirstContent
         ensures value { first_in result ≡ address ∷ [] }
         ensures is { IsFirst result.kind result.text }

@@ -104,6 +104,7 @@ impl Rest {
         })
     }
 
+    /// Its refinement and the kind of its first content.
     pub fn marks(&self) -> Marks
         ensures { result ≡ rests.marks self.now }
     {
@@ -123,6 +124,7 @@ impl Rest {
         }
     }
 
+    /// Notes how many tiles its tree has, once all of them are read.
     pub fn set_size(&mut self, count: u32)
         ensures { self.new ≡ rests.with_size self.old count }
     {
@@ -132,6 +134,7 @@ impl Rest {
         }
     }
 
+    /// The viewer request volume, where it has one, in millimetres.
     pub fn request(&self) -> Option<&Volume>
         ensures { option_map (λ v. v.now) result ≡ rests.request self.now }
     {
@@ -141,6 +144,7 @@ impl Rest {
         }
     }
 
+    /// Its own transform, where it has one.
     pub fn transform(&self) -> Option<&Affine>
         ensures { option_map (λ m. m.now) result ≡ rests.transform self.now }
     {
