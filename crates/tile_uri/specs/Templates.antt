@@ -73,12 +73,16 @@ number_of level x y z Z = z
 abbrev pub filled : ℕ → Part → List ℕ
 filled number part = decimal number ++ part.literal
 
+-- each variable replaced by its number in decimal
+abbrev pub filled_parts : List Part → ℕ → ℕ → ℕ → ℕ → List ℕ
+filled_parts parts level x y z =
+    flat_map (λ part. filled (number_of level x y z part.variable) part) parts
+
 -- the text with each variable replaced by its number in decimal
 abbrev pub fill : List ℕ → ℕ → ℕ → ℕ → ℕ → List ℕ
 fill text level x y z =
     (split_at_braces text).0
-    ++ flat_map (λ part. filled (number_of level x y z part.variable) part)
-    (unwrap_or (parts_of true (split_at_braces text).1) [])
+    ++ filled_parts (unwrap_or (parts_of true (split_at_braces text).1) []) level x y z
 
 -- ---- what a template keeps ready
 

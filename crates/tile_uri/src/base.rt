@@ -85,7 +85,7 @@ impl Base {
                 Ok(whole) => whole,
                 Err(_) => return Err(UriError::OutOfMemory),
             };
-            if is_plain_path_from(whole.as_bytes(), folder.len()) {
+            if is_plain_path_from(whole.as_str().as_bytes(), folder.len()) {
                 return address_of_path(whole);
             }
         }
@@ -127,14 +127,14 @@ fn address_below(alloc: Global, folder: &str, path: &str) -> Result<Address, Uri
 }
 
 /// The same of the whole text. It takes no memory.
-fn address_of_path(whole: String) -> Result<Address, UriError>
-    requires { IsPathAddress (string_bytes whole) }
-    ensures { result ≡ within_limit (string_bytes whole) }
+fn address_of_path(whole: Text) -> Result<Address, UriError>
+    requires { IsPathAddress whole }
+    ensures { result ≡ within_limit whole }
 {
-    if ADDRESS_LIMIT < whole.len() {
+    if ADDRESS_LIMIT < whole.as_str().len() {
         return Err(UriError::TooLong);
     }
-    Ok(Address::of_path(Text::from(whole)))
+    Ok(Address::of_path(whole))
 }
 
 /// The folder of an address, in memory of its own.

@@ -7,6 +7,7 @@ mod address;
 mod base;
 mod error;
 mod part;
+mod placing;
 mod plain_path;
 mod template;
 mod variable;

@@ -1,10 +1,11 @@
 //! The parts of a template: each is a variable with the literal text behind it.
 
-ghost use Rattle.std.specs.Prelude.{◌≡◌, ◌++◌, [], ◌∷◌, true, Some, is_some, IfOk, OnOk, option_map, option_copied, string_bytes};
+ghost use Rattle.std.specs.Prelude.{◌≡◌, ◌≤◌, ◌++◌, [], ◌∷◌, true, Some, is_some, IfOk, IfSome, IsUtf8, OnOk, drop, length, option_map, option_copied, string_bytes};
 ghost use Rattle.url.specs.Input.{split_once};
 ghost use Rattle.tile_uri.specs.Templates as templates;
-ghost use Rattle.tile_uri.specs.Templates.{filled, parts_of, texts_behind};
+ghost use Rattle.tile_uri.specs.Templates.{filled, filled_parts, parts_of, texts_behind};
 
+use crate::placing::{place_number, place_text};
 use crate::variable::Variable;
 use itoa::Buffer;
 use std::alloc::{AllocError, Global};
@@ -28,6 +29,50 @@ impl Part {
         out.push_str(self.literal.as_str())?;
         Ok(())
     }
+
+    /// Writes a number in the variable's place, and the literal text, so that they end at `end`,
+    /// and answers where they start. Without room they aren't written.
+    pub(crate) fn place(&self, bytes: &mut [u8], end: usize, number: u32) -> Option<usize>
+        requires within { end ≤ length bytes.old }
+        requires utf8 { IsUtf8 (drop end bytes.old) }
+        ensures within { IfSome result (λ start. start ≤ end) }
+        ensures written { IfSome result
+            (λ start. drop start bytes.new ≡ filled number self.now ++ drop end bytes.old) }
+        ensures utf8 { IfSome result (λ start. IsUtf8 (drop start bytes.new)) }
+    {
+        let Some(at) = place_text(bytes, end, self.literal.as_str()) else {
+            return None;
+        };
+        place_number(bytes, at, number)
+    }
+}
+
+/// Writes parts, each with the number of its variable, at the end of the bytes, and answers where
+/// they start. Without room they aren't written.
+pub(crate) fn place_parts(
+    bytes: &mut [u8],
+    parts: &[Part],
+    level: u8,
+    x: u32,
+    y: u32,
+    z: u32,
+) -> Option<usize>
+    ensures within { IfSome result (λ start. start ≤ length bytes.new) }
+    ensures written { IfSome result
+        (λ start. drop start bytes.new ≡ filled_parts parts.now level x y z) }
+    ensures utf8 { IfSome result (λ start. IsUtf8 (drop start bytes.new)) }
+{
+    let mut at = bytes.len();
+    let mut left = parts.len();
+    while left > 0 {
+        left -= 1;
+        let part = &parts[left];
+        let Some(start) = part.place(bytes, at, part.variable.number(level, x, y, z)) else {
+            return None;
+        };
+        at = start;
+    }
+    Some(at)
 }
 
 /// Whether each opening brace of the text begins a variable. It takes no memory.

@@ -1,19 +1,23 @@
 //! Template URIs, which name an address for each tile of an implicit tileset.
 
-ghost use Rattle.std.specs.Prelude.{◌≡◌, ◌++◌, true, Err, IfErr, IfOk, string_bytes};
+ghost use Rattle.std.specs.Prelude.{◌≡◌, ◌≤◌, ◌++◌, true, Err, IfErr, IfOk, IfSome, IsUtf8, drop, length, string_bytes};
 ghost use Rattle.tile_uri.specs.Addresses.{Answers};
 ghost use Rattle.tile_uri.specs.Templates as templates;
 ghost use Rattle.tile_uri.specs.Templates.{split_at_braces, template_of};
 
 use crate::address::ADDRESS_LIMIT;
 use crate::error::UriError;
-use crate::part::{Part, is_template, read_parts, split_at_brace};
+use crate::part::{Part, is_template, place_parts, read_parts, split_at_brace};
+use crate::placing::place_text;
 use std::alloc::{AllocError, Global};
 use std::marker::Model;
 use tile_types::Text;
 
 /// How many digits more a number may have than its variable has characters: ten stand for `{x}`.
 const SURPLUS_DIGITS: usize = 7;
+
+/// How long a filled template may be to be written at once into bytes on the stack.
+const COMMON_LENGTH: usize = 128;
 
 /// A text with the variables `{level}`, `{x}`, `{y}` and `{z}` for the numbers of a tile (OGC
 /// 22-025r4, "Template URIs"). Contracts see the text.
@@ -73,12 +77,57 @@ impl Template {
     pub fn fill(&self, alloc: Global, level: u8, x: u32, y: u32, z: u32) -> Result<Text, AllocError>
         ensures { IfOk result (λ t. t ≡ templates.fill self.now level x y z) }
     {
-        let whole = self.fill_behind(alloc, "", level, x, y, z)?;
-        Ok(Text::from(whole))
+        self.fill_behind(alloc, "", level, x, y, z)
     }
 
     /// The same behind another text.
     pub(crate) fn fill_behind(
+        &self,
+        alloc: Global,
+        front: &str,
+        level: u8,
+        x: u32,
+        y: u32,
+        z: u32,
+    ) -> Result<Text, AllocError>
+        ensures { IfOk result (λ t. t ≡ front.now ++ templates.fill self.now level x y z) }
+    {
+        let mut bytes = [0; COMMON_LENGTH];
+        if let Some(start) = self.place_behind(&mut bytes, front, level, x, y, z) {
+            // What was written are texts and digits.
+            let whole = unsafe { str::from_utf8_unchecked(&bytes[start..]) };
+            return Text::new(alloc, whole);
+        }
+        Ok(Text::from(self.write_behind(alloc, front, level, x, y, z)?))
+    }
+
+    /// The same at the end of the bytes, with the place where it starts. Without room it isn't
+    /// written.
+    fn place_behind(
+        &self,
+        bytes: &mut [u8],
+        front: &str,
+        level: u8,
+        x: u32,
+        y: u32,
+        z: u32,
+    ) -> Option<usize>
+        ensures within { IfSome result (λ start. start ≤ length bytes.new) }
+        ensures written { IfSome result
+            (λ start. drop start bytes.new ≡ front.now ++ templates.fill self.now level x y z) }
+        ensures utf8 { IfSome result (λ start. IsUtf8 (drop start bytes.new)) }
+    {
+        let Some(at) = place_parts(bytes, self.parts.as_slice(), level, x, y, z) else {
+            return None;
+        };
+        let Some(at) = place_text(bytes, at, self.head.as_str()) else {
+            return None;
+        };
+        place_text(bytes, at, front)
+    }
+
+    /// The same as a string of any length.
+    fn write_behind(
         &self,
         alloc: Global,
         front: &str,

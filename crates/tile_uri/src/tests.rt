@@ -217,7 +217,7 @@ fn external_tilesets(rt: HostRuntime) -> Result<(), Fail> {
 
 /// Templates, whether they are an octree's, what they are filled to, and what that stands for below
 /// the base.
-static FILLED: [(&str, bool, &str, &str); 7] = [
+static FILLED: [(&str, bool, &str, &str); 8] = [
     (
         "{level}/{x}/{y}/{z}",
         true,
@@ -244,6 +244,17 @@ static FILLED: [(&str, bool, &str, &str); 7] = [
         false,
         "../2/1.json",
         "http://tiles/2/1.json",
+    ),
+    // Longer than what is filled on the stack.
+    (
+        "aaaaaaaaaabbbbbbbbbbccccccccccddddddddddeeeeeeeeeeffffffffffgggggggggg/{level}/\
+         hhhhhhhhhhiiiiiiiiiijjjjjjjjjjkkkkkkkkkkllllllllllmmmmmmmmmmnnnnnnnnnn/{x}/{y}.glb",
+        false,
+        "aaaaaaaaaabbbbbbbbbbccccccccccddddddddddeeeeeeeeeeffffffffffgggggggggg/2/\
+         hhhhhhhhhhiiiiiiiiiijjjjjjjjjjkkkkkkkkkkllllllllllmmmmmmmmmmnnnnnnnnnn/1/3.glb",
+        "http://tiles/x/\
+         aaaaaaaaaabbbbbbbbbbccccccccccddddddddddeeeeeeeeeeffffffffffgggggggggg/2/\
+         hhhhhhhhhhiiiiiiiiiijjjjjjjjjjkkkkkkkkkkllllllllllmmmmmmmmmmnnnnnnnnnn/1/3.glb",
     ),
 ];
 

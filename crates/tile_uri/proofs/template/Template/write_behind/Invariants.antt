@@ -1,7 +1,7 @@
 use Rattle.std.proofs.Common.{◌≡◌, ◌++◌, take}
 use Rattle.std.specs.Prelude.{flat_map, string_bytes}
 use Rattle.tile_uri.specs.Templates.{number_of, filled}
-use Rattle.tile_uri.proofs.template.Template.fill_behind.Given as goal
+use Rattle.tile_uri.proofs.template.Template.write_behind.Given as goal
 
 abbrev pub invariant-loop-part : goal.invariant-loop-part
 invariant-loop-part l =
