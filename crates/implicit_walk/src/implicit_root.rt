@@ -128,6 +128,8 @@ fn is_cell(place: u32, levels: u8) -> bool
 
 /// The places of a tile's children, in Morton order: four in a quadtree, eight in an octree, and
 /// none on the last available level. It takes no memory.
+// Where it is inlined, each place of a row is moved once more.
+#[inline(never)]
 pub fn child_places(root: &ImplicitRoot, at: Place) -> PlaceRow
     requires { IsPlace root.now.part at }
     ensures value { result ≡ places.child_places root.now.part at }

@@ -1,7 +1,8 @@
 //! The tree of a store's documents.
 
-ghost use Rattle.std.specs.Prelude.{◌≡◌, ◌↔◌, [], IfOk, IfErr, All, IsTrue, map};
+ghost use Rattle.std.specs.Prelude.{◌≡◌, ◌↔◌, [], IfOk, IfErr, All, IsTrue, OnOk, map, string_bytes};
 ghost use Rattle.std.specs.Prelude.{Some};
+ghost use Rattle.expanded_tree.specs.Tree.{name_of};
 ghost use Rattle.tree_expansion.specs.Whole.{IsWhole};
 ghost use Rattle.plain_tree.specs.Standing.{standing_of};
 ghost use Rattle.plain_tree.specs.Preorder.{nodes_of};
@@ -22,7 +23,7 @@ use std::marker::Model;
 use tile_types::{Key, Text};
 use tree_nodes::{
     TablePlace, TableTree, content_at, content_count_at, facts_at, pending_at, table_place_at,
-    write_name,
+    write_name, write_name_over,
 };
 
 /// The expanded tree of a store's documents, written out node by node.
@@ -53,6 +54,7 @@ impl<'a> Model for PlainTree<'a> {
 impl<'a> PlainTree<'a> {
     /// The tree of the documents, of any size.
     pub fn build_whole(alloc: Global, store: &'a DocStore) -> Result<PlainTree<'a>, AllocError>
+        ensures store { IfOk result (λ t. t.store ≡ store.now) }
         ensures tree { IfOk result (λ t. (standing_of t).tree ≡ stored_tree store.now) }
         ensures opened { IfOk result (λ t. (standing_of t).opened ≡ []) }
     {
@@ -84,8 +86,23 @@ impl<'a> PlainTree<'a> {
         list_preorder(alloc, self.store, &self.nodes)
     }
 
+    /// Writes the name of a node in place of what the string held.
+    pub fn write_name_over(
+        &self,
+        alloc: Global,
+        node: Node,
+        name: &mut String,
+    ) -> Result<(), AllocError>
+        requires { IsTrue ((standing_of self.now).is_valid node) }
+        ensures { OnOk result
+            (string_bytes name.new ≡ name_of ((standing_of self.now).node_tree node)) }
+    {
+        write_name_over(alloc, self.store, &self.nodes.list, node.number, name)
+    }
+
     /// The tree of the documents, if it has at most 1,048,576 nodes.
     pub fn build(alloc: Global, store: &'a DocStore) -> Result<PlainTree<'a>, PlainError>
+        ensures store { IfOk result (λ t. t.store ≡ store.now) }
         ensures tree { IfOk result (λ t. (standing_of t).tree ≡ stored_tree store.now) }
         ensures opened { IfOk result (λ t. (standing_of t).opened ≡ []) }
         ensures within { IfOk result (λ _.

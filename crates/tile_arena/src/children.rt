@@ -9,7 +9,7 @@ use std::alloc::AllocError;
 #[derive(Clone, Copy, Debug)]
 pub(crate) struct Children {
     pub(crate) at_hand: bool,
-    pub(crate) first: u64,
+    pub(crate) first: u32,
     pub(crate) count: u32,
 }
 

@@ -91,12 +91,16 @@ impl Held {
             self.opened.push_reserved(node);
             return Ok(known.count);
         }
-        let first = self.list.nodes.len() as u64;
+        let first = self.list.nodes.len();
+        // No memory holds so many nodes: so their places are below 2^32.
+        if first > u32::MAX as usize {
+            return Err(AllocError);
+        }
         self.list.open_children(alloc, store, node.number)?;
-        let count = (self.list.nodes.len() as u64 - first) as u32;
+        let count = (self.list.nodes.len() - first) as u32;
         self.children[place] = Children {
             at_hand: true,
-            first,
+            first: first as u32,
             count,
         };
         self.opened.push_reserved(node);
@@ -112,6 +116,6 @@ impl Held {
         ensures tree { slice_get (children_of (tree_in (trees_of _store.now self.now) place)) i
             ≡ Some (tree_in (trees_of _store.now self.now) result) }
     {
-        self.children[place as usize].first + u64::from(i)
+        u64::from(self.children[place as usize].first) + u64::from(i)
     }
 }

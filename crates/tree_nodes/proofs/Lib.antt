@@ -12,6 +12,7 @@ mod OwnContents
 mod PlaceChildren
 mod PlaceContents
 mod PlaceExternals
+mod PlaceEnds
 mod PlaceFacts
 mod PlaceNames
 mod PlaceNodes

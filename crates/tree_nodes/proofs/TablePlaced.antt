@@ -1,5 +1,5 @@
 -- Where the bits of implicit tiles are.
-use Rattle.std.proofs.Common.{ℕ, ◌≡◌, Bool, true, false, if◌then◌else◌, Option, Some, None, option_map, List, [], get_or, refl, sym, ◌∙◌, ap, subst}
+use Rattle.std.proofs.Common.{ℕ, ◌≡◌, if◌then◌else◌, Option, Some, None, option_map, List, [], get_or, refl, sym, ◌∙◌, ap, subst}
 use Rattle.std.specs.List.{slice_get}
 use Rattle.std.specs.Option.{option_and_then, option_map_or}
 use Rattle.std.proofs.lemmas.Option.{slice_get_read, slice_get_within}
@@ -9,7 +9,7 @@ use Rattle.tile_types.specs.declared.key.Kind.TheVariants as kind
 use Rattle.tile_types.specs.Keys.{same_kind}
 use Rattle.tileset_schema.specs.Preorder.{Row}
 use Rattle.tileset_schema.specs.Tiles.{WrittenTile, written}
-use Rattle.subtree_binary.specs.Found.{Found, waiting, lost, here}
+use Rattle.subtree_binary.specs.Found.{here}
 use Rattle.subtree_binary.specs.Subtrees.{SubtreeParts}
 use Rattle.implicit_walk.specs.Places.{number_in_subtree}
 use Rattle.implicit_walk.specs.Presences.{Known, known_at}
@@ -28,7 +28,7 @@ use Rattle.tree_nodes.specs.declared.table_place.TablePlace.{TablePlace}
 use Rattle.tree_nodes.specs.declared.tables.Tables.{Tables}
 use Rattle.tree_nodes.specs.Nodes.{IsPending, IsSoundList, IsThere, node_trees, placed_node, tile_under}
 use Rattle.tree_nodes.specs.Places.{IsPlaceAt, IsState, IsTop}
-use Rattle.tree_nodes.specs.TablePlaces.{IsTablePlace, TellsPlace, key_in, origin_of}
+use Rattle.tree_nodes.specs.TablePlaces.{TellsPlace, key_in, origin_of}
 use Rattle.tree_nodes.specs.TreeIn.{tree_in}
 use Rattle.tree_nodes.specs.Tiles.{address_in}
 use Rattle.tree_nodes.proofs.PlacesRead.{its_tree, pending_is, place_there, placed_is, tile_at_place, waiting_at_place, written_is}

@@ -266,7 +266,7 @@ impl NodeList {
         &mut self,
         alloc: Global,
         store: &DocStore,
-        place: u64,
+        place: u32,
         node: TreeNode,
         document: u32,
         tile: u32,
@@ -320,6 +320,11 @@ impl NodeList {
         ensures { AddsChildrenOf store.now limit self.old self.new
             (tree_in (node_trees store.now self.old) place) result }
     {
+        // No memory holds so many nodes: so their places are below 2^32.
+        if place > u64::from(u32::MAX) {
+            return Err(ListError::OutOfMemory);
+        }
+        let place = place as u32;
         let node = self.nodes[place as usize];
         match node.source {
             NodeSource::Pending { waiting: _ } => Ok(()),

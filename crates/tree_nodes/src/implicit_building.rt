@@ -193,9 +193,9 @@ impl NodeList {
         &mut self,
         alloc: Global,
         store: &DocStore,
-        place: u64,
+        place: u32,
         node: TreeNode,
-        number: u64,
+        number: u32,
         limit: Option<u32>,
     ) -> Result<(), ListError>
         requires sound { IsSoundList store.now self.old }

@@ -15,6 +15,7 @@ mod node;
 mod node_list;
 mod place_contents;
 mod place_entry;
+mod place_name;
 mod reading;
 mod stretch;
 mod table_place;
@@ -23,7 +24,7 @@ mod tables;
 mod top;
 
 pub use error::ListError;
-pub use names::write_name;
+pub use names::{write_name, write_name_over};
 pub use node::{NodeSource, TreeNode, Waiting};
 pub use node_list::NodeList;
 pub use place_entry::{PlaceEntry, SubtreeState};

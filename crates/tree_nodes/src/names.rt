@@ -11,6 +11,7 @@ ghost use Rattle.tree_nodes.specs.Growth.{CanTake, handed_name};
 
 use crate::node::{Handed, NodeSource};
 use crate::node_list::NodeList;
+use crate::place_name::{PLACE_BYTES, place_at};
 use crate::tables::Tables;
 use doc_store::DocStore;
 use implicit_walk::Place;
@@ -43,18 +44,19 @@ fn common_end(number: u32) -> Option<&'static str>
     }
 }
 
-/// Writes a sign and a number behind a name.
-fn push_behind(name: &mut String, sign: &str, number: u32) -> Result<(), AllocError>
-    ensures { OnOk result (string_bytes name.new
-        ≡ string_bytes name.old ++ sign.now ++ decimal number) }
+/// Makes of a name that of its child of this number, whatever it is.
+#[inline(never)]
+fn push_any_number(name: &mut String, number: u32) -> Result<(), AllocError>
+    ensures { OnOk result (string_bytes name.new ≡ child_name (string_bytes name.old) number) }
 {
     let mut digits = Buffer::new();
-    name.push_str(sign)?;
+    name.push_str("/")?;
     name.push_str(digits.format(number))?;
     Ok(())
 }
 
 /// Makes of a name that of its child of this number.
+#[inline(always)]
 fn push_number(name: &mut String, number: u32) -> Result<(), AllocError>
     ensures { OnOk result (string_bytes name.new ≡ child_name (string_bytes name.old) number) }
 {
@@ -62,7 +64,7 @@ fn push_number(name: &mut String, number: u32) -> Result<(), AllocError>
         name.push_str(end)?;
         return Ok(());
     }
-    push_behind(name, "/", number)
+    push_any_number(name, number)
 }
 
 /// Makes of the name of an implicit root that of a tile below it.
@@ -70,34 +72,57 @@ fn push_place(name: &mut String, octree: bool, at: Place) -> Result<(), AllocErr
     ensures { OnOk result (string_bytes name.new ≡ string_bytes name.old
         ++ codes "!" ++ decimal at.level ++ place_numbers octree at) }
 {
-    push_behind(name, "!", u32::from(at.level))?;
-    push_behind(name, ".", at.x)?;
-    push_behind(name, ".", at.y)?;
-    if octree {
-        push_behind(name, ".", at.z)?;
-    }
+    let mut bytes = [0; PLACE_BYTES];
+    let start = place_at(&mut bytes, octree, at);
+    // What was written are marks and digits.
+    name.push_str(unsafe { str::from_utf8_unchecked(&bytes[start..]) })?;
     Ok(())
 }
 
-/// The name of a node below an implicit root.
+/// The name of a node below an implicit root, in place of what the string held.
 fn write_place(
+    name: &mut String,
+    store: &DocStore,
+    tables: &Tables,
+    number: u32,
+) -> Result<(), AllocError>
+    requires { IsPlaceAt store.now tables.now number }
+    ensures { OnOk result ((p : IsPlaceAt store.now tables.now number)
+        → string_bytes name.new ≡ place_name p.has.top p.entry.at) }
+{
+    let entry = tables.places[number as usize];
+    name.clear();
+    name.push_str(tables.tops[entry.top as usize].name.as_str())?;
+    if entry.at.level == 0 {
+        return Ok(());
+    }
+    let octree = tables.root(store, entry.top).part().octree();
+    push_place(name, octree, entry.at)?;
+    Ok(())
+}
+
+/// The name of a node below an implicit root. A short one takes no memory.
+fn name_of_place(
     alloc: Global,
     store: &DocStore,
     tables: &Tables,
-    number: u64,
-) -> Result<String, AllocError>
+    number: u32,
+) -> Result<Text, AllocError>
     requires { IsPlaceAt store.now tables.now number }
     ensures { IfOk result (λ name. (p : IsPlaceAt store.now tables.now number)
-        → string_bytes name ≡ place_name p.has.top p.entry.at) }
+        → name ≡ place_name p.has.top p.entry.at) }
 {
     let entry = tables.places[number as usize];
-    let mut name = String::with_capacity(alloc, COMMON_LENGTH)?;
-    name.push_str(tables.tops[entry.top as usize].name.as_str())?;
-    if entry.at.level > 0 {
-        let octree = tables.root(store, entry.top).part().octree();
-        push_place(&mut name, octree, entry.at)?;
+    let top = &tables.tops[entry.top as usize];
+    if entry.at.level == 0 {
+        return top.name.copy(alloc);
     }
-    Ok(name)
+    let octree = tables.root(store, entry.top).part().octree();
+    let mut bytes = [0; PLACE_BYTES];
+    let start = place_at(&mut bytes, octree, entry.at);
+    // What was written are marks and digits.
+    let behind = unsafe { str::from_utf8_unchecked(&bytes[start..]) };
+    top.name.followed_by(alloc, behind)
 }
 
 /// Whether the name of the node at a place is that of its parent with a number behind it.
@@ -114,29 +139,61 @@ fn climbs(list: &NodeList, place: u64) -> bool
     }
 }
 
-/// The name of a node that isn't named by its parent.
+/// The name of a node that isn't named by its parent, in place of what the string held.
 fn write_start(
+    name: &mut String,
+    store: &DocStore,
+    list: &NodeList,
+    place: u64,
+) -> Result<(), AllocError>
+    requires sound { IsSoundList store.now list.now }
+    requires within { place < length list.now.nodes.items }
+    requires starts { StartsName list.now place }
+    ensures { OnOk result
+        (string_bytes name.new ≡ name_of (tree_in (node_trees store.now list.now) place)) }
+{
+    if let NodeSource::Implicit { place } = list.nodes[place as usize].source {
+        write_place(name, store, &list.tables, place)?;
+        return Ok(());
+    }
+    name.clear();
+    name.push_str("r")?;
+    Ok(())
+}
+
+/// Writes the name of the node at a place in place of what the string held: the numbers on the way
+/// up, as far as they name it, from there on.
+pub fn write_name_over(
     alloc: Global,
     store: &DocStore,
     list: &NodeList,
     place: u64,
-) -> Result<String, AllocError>
+    name: &mut String,
+) -> Result<(), AllocError>
     requires sound { IsSoundList store.now list.now }
     requires within { place < length list.now.nodes.items }
-    requires starts { StartsName list.now place }
-    ensures { IfOk result (λ name.
-        string_bytes name ≡ name_of (tree_in (node_trees store.now list.now) place)) }
+    ensures { OnOk result
+        (string_bytes name.new ≡ name_of (tree_in (node_trees store.now list.now) place)) }
 {
-    if let NodeSource::Implicit { place } = list.nodes[place as usize].source {
-        return write_place(alloc, store, &list.tables, place);
+    // Where no number names it, as in an implicit tileset, there is no way up to keep.
+    if !climbs(list, place) {
+        return write_start(name, store, list, place);
     }
-    let mut name = String::with_capacity(alloc, COMMON_LENGTH)?;
-    name.push_str("r")?;
-    Ok(name)
+    let mut path = Vec::with_capacity(alloc, COMMON_DEPTH)?;
+    let mut at = place;
+    while climbs(list, at) {
+        let node = list.nodes[at as usize];
+        path.push(node.number)?;
+        at = u64::from(node.parent);
+    }
+    write_start(name, store, list, at)?;
+    while let Some(number) = path.pop() {
+        push_number(name, number)?;
+    }
+    Ok(())
 }
 
-/// The name of the node at a place: the numbers on the way up, as far as they name it, written from
-/// there on.
+/// The name of the node at a place, in a string of its own.
 fn write_whole(
     alloc: Global,
     store: &DocStore,
@@ -148,17 +205,8 @@ fn write_whole(
     ensures { IfOk result (λ name.
         string_bytes name ≡ name_of (tree_in (node_trees store.now list.now) place)) }
 {
-    let mut path = Vec::with_capacity(alloc, COMMON_DEPTH)?;
-    let mut at = place;
-    while climbs(list, at) {
-        let node = list.nodes[at as usize];
-        path.push(node.number)?;
-        at = node.parent;
-    }
-    let mut name = write_start(alloc, store, list, at)?;
-    while let Some(number) = path.pop() {
-        push_number(&mut name, number)?;
-    }
+    let mut name = String::with_capacity(alloc, COMMON_LENGTH)?;
+    write_name_over(alloc, store, list, place, &mut name)?;
     Ok(name)
 }
 
@@ -174,6 +222,9 @@ pub fn write_name(
     ensures { IfOk result (λ name.
         name ≡ name_of (tree_in (node_trees store.now list.now) place)) }
 {
+    if let NodeSource::Implicit { place } = list.nodes[place as usize].source {
+        return name_of_place(alloc, store, &list.tables, place);
+    }
     Ok(Text::from(write_whole(alloc, store, list, place)?))
 }
 
@@ -191,7 +242,7 @@ pub(crate) fn name_below(
     if list.nodes.len() == 0 {
         return Text::new(alloc, "r");
     }
-    let mut name = write_whole(alloc, store, list, handed.parent)?;
+    let mut name = write_whole(alloc, store, list, u64::from(handed.parent))?;
     push_number(&mut name, handed.number)?;
     Ok(Text::from(name))
 }

@@ -13,6 +13,7 @@ ghost use Rattle.tree_nodes.specs.declared.node.NodeSource.TheVariants.{Tile};
 use crate::error::{ListError, NoRoom};
 use crate::node::{Handed, NodeSource, TreeNode, Waiting};
 use crate::place_entry::PlaceEntry;
+use crate::stretch::next_number;
 use crate::tables::Tables;
 use fixed_geometry::Affine;
 use std::alloc::{AllocError, Global};
@@ -94,7 +95,7 @@ impl NodeList {
 
     /// The error of a tile that says this of itself, under the transform of this number, in
     /// micrometres.
-    pub(crate) fn moved_error(&self, own: &Written, transform: u64) -> u64
+    pub(crate) fn moved_error(&self, own: &Written, transform: u32) -> u64
         requires { transform < length self.now.tables.transforms.items }
         ensures value { result
             ≡ moved_error own.now.parts.error (map_in self.now.tables.transforms.items transform) }
@@ -146,12 +147,13 @@ impl NodeList {
     ) -> Result<(), ListError>
         ensures { Tells limit self.old self.new result (AddsPlace handed entry self.old self.new) }
     {
+        let Ok(place) = next_number(self.tables.places.len()) else {
+            return Err(ListError::OutOfMemory);
+        };
         let node = TreeNode {
             parent: handed.parent,
             transform: handed.transform,
-            source: NodeSource::Implicit {
-                place: self.tables.places.len() as u64,
-            },
+            source: NodeSource::Implicit { place },
             number: handed.number,
             levels: handed.levels,
             refine: handed.refine,
@@ -174,12 +176,13 @@ impl NodeList {
     ) -> Result<(), ListError>
         ensures { Tells limit self.old self.new result (AddsPending handed waiting self.old self.new) }
     {
+        let Ok(number) = next_number(self.tables.waiting.len()) else {
+            return Err(ListError::OutOfMemory);
+        };
         let node = TreeNode {
             parent: handed.parent,
             transform: handed.transform,
-            source: NodeSource::Pending {
-                waiting: self.tables.waiting.len() as u64,
-            },
+            source: NodeSource::Pending { waiting: number },
             number: handed.number,
             levels: handed.levels,
             refine: handed.refine,
@@ -197,9 +200,9 @@ impl NodeList {
 /// The number of the computed transform of a tile below one of that number.
 pub(crate) fn transform_below(
     transforms: &mut Vec<Affine>,
-    above: u64,
+    above: u32,
     own: &Written,
-) -> Result<u64, AllocError>
+) -> Result<u32, AllocError>
     requires { above < length transforms.old.items }
     ensures below { IfOk result (λ number. IsBelow transforms.old.items transforms.new.items above
         own.now.parts.transform number) }
@@ -210,7 +213,7 @@ pub(crate) fn transform_below(
         let _ = transforms[above as usize].max_scale();
         return Ok(above);
     };
-    let number = transforms.len() as u64;
+    let number = next_number(transforms.len())?;
     let computed = transforms[above as usize].then(own);
     transforms.push(computed)?;
     Ok(number)

@@ -55,7 +55,7 @@ fn tile_facts(own: &Written, transform: &Affine, refine: Refine) -> NodeFacts
 }
 
 /// What is known of a node below an implicit root.
-fn place_facts(store: &DocStore, tables: &Tables, number: u64) -> NodeFacts
+fn place_facts(store: &DocStore, tables: &Tables, number: u32) -> NodeFacts
     requires { IsPlaceAt store.now tables.now number }
     ensures { (p : IsPlaceAt store.now tables.now number)
         → result ≡ place_facts p.has.top p.entry.at

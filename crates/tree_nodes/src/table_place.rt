@@ -41,7 +41,7 @@ pub fn table_place_at(store: &DocStore, list: &NodeList, at: u64) -> Option<Tabl
 }
 
 /// Where the bit of the tile of an entry is, in the subtree of this number.
-fn place_in(store: &DocStore, tables: &Tables, number: u64, subtree: u32) -> TablePlace
+fn place_in(store: &DocStore, tables: &Tables, number: u32, subtree: u32) -> TablePlace
     requires { IsPlaceAt store.now tables.now number }
     ensures { (p : IsPlaceAt store.now tables.now number) → result ≡ record {
       document = p.has.placed.is_top.entry.document;

@@ -24,7 +24,7 @@ pub struct Top {
     /// The address of its document, below which templates are resolved.
     pub base: Base,
     /// The number of its computed transform.
-    pub transform: u64,
+    pub transform: u32,
     pub refine: Refine,
     /// Under its transform, as the volume and the error are.
     pub request: Option<Volume>,

@@ -67,6 +67,9 @@ fn check_below(
     requires { IsTrue ((standing_of tree.old).is_valid below) }
 {
     assert_eq!(rt; tree.name(alloc, below)?.as_str(), "r/0");
+    let mut name = String::from_str(alloc, "r/1!2.3.4")?;
+    tree.write_name_over(alloc, below, &mut name)?;
+    assert_eq!(rt; name.as_str(), "r/0");
     check_pending(rt, tree, below);
     assert_eq!(rt; tree.open_children(alloc, below)?, 0);
     Ok(())

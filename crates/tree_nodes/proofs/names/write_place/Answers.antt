@@ -1,9 +1,8 @@
 use Rattle.std.specs.Prelude.{decimal}
-use Rattle.std.proofs.Common.{◌≡◌, ◌++◌, ap, codes, ◌∙◌, string_bytes}
+use Rattle.std.proofs.Common.{◌≡◌, ◌++◌, ap, arith, codes, ◌∙◌, string_bytes}
 use Rattle.tileset_schema.specs.Implicit.{ImplicitParts}
 use Rattle.tree_expansion.specs.Expansion.{place_numbers}
-use Rattle.tree_nodes.proofs.PlaceNames.{name_at_place, name_at_root}
-use Rattle.tree_nodes.proofs.names.write_place.Goals.{then-entry-gt0+in_ok-push_place, else-entry-gt0}
+use Rattle.tree_nodes.proofs.PlaceNames.{name_at_place}
 use Rattle.tree_nodes.proofs.names.write_place.Goals as goal
 
 pub returns : goal.returns
@@ -15,21 +14,13 @@ returns c = λ p.
     let name = string_bytes c.push_str.new.self in
     let start : string_bytes c.push_str.new.self ≡ c.index.result.now.name =
     c.in_ok-push_str.ensures.bytes
-    ∙ ap (λ start. start ++ c.as_str.result.now) c.in_ok-name.ensures.bytes
+    ∙ ap (λ start. start ++ c.as_str.result.now) c.clear.ensures.bytes
     ∙ c.as_str.ensures.value in
-    elim c.if-entry-gt0.branch [
-      | then-entry-gt0+in_ok-push_place w ↦
-          let octree = w.octree-octree.ensures
-          ∙ ap (λ (part : ImplicitParts). part.octree) w.part.ensures.value in
-          ap string_bytes w.name-is
-          ∙ name_at_place store tables c.args.number p entry c.index-entry.ensures top
-          c.index.ensures name start w.root.result w.root.ensures
-          (string_bytes w.push_place.new.name)
-          (w.in_ok-push_place.ensures
-          ∙ ap (λ o. name ++ codes "!" ++ decimal entry.at.level ++ place_numbers o entry.at)
-          octree)
-          w.if-entry-gt0.true
-      | else-entry-gt0 w ↦ ap string_bytes w.name-is
-          ∙ name_at_root store tables c.args.number p entry c.index-entry.ensures top
-          c.index.ensures name start w.if-entry-gt0.false
-    ]
+    let octree = c.octree-octree.ensures
+    ∙ ap (λ (part : ImplicitParts). part.octree) c.part.ensures.value in
+    name_at_place store tables c.args.number p entry c.index-entry.ensures top
+    c.index.ensures name start c.root.result c.root.ensures
+    (string_bytes c.push_place.new.name)
+    (c.in_ok-push_place.ensures
+    ∙ ap (λ o. name ++ codes "!" ++ decimal entry.at.level ++ place_numbers o entry.at) octree)
+    (omega (arith, c.if-entry-eq0.false))

@@ -1,11 +1,5 @@
-use Rattle.std.proofs.Common.{◌≡◌, ◌++◌, ap, codes, refl, string_bytes, sym, ◌∙◌}
+use Rattle.std.proofs.Common.{◌++◌, ap, codes, refl, sym, ◌∙◌}
 use Rattle.std.proofs.lemmas.Option.{slice_get_read}
-use Rattle.std.proofs.lemmas.Result.{IfOk-weaker}
-use Rattle.expanded_tree.specs.Tree.{name_of}
-use Rattle.tree_expansion.specs.Expansion.{place_name}
-use Rattle.tree_nodes.specs.TreeIn.{tree_in}
-use Rattle.tree_nodes.specs.Places.{IsPlaceAt}
-use Rattle.tree_nodes.specs.Nodes.{node_trees}
 use Rattle.tree_nodes.proofs.PlaceNames.{implicit_name, numbered_source, root_name}
 use Rattle.tree_nodes.proofs.PlacesRead.{place_there}
 use Rattle.tree_nodes.proofs.names.write_start.Goals as goal
@@ -21,11 +15,7 @@ returns-in-Implicit c =
     c.in-Implicit.is in
     let is = implicit_name store list c.args.place n c.requires.sound read c.in-Implicit.place
     c.in-Implicit.is p in
-    IfOk-weaker c.write_place.result
-    (λ name. (q : IsPlaceAt store list.tables c.in-Implicit.place)
-    → string_bytes name ≡ place_name q.has.top q.entry.at)
-    (λ name. string_bytes name ≡ name_of (tree_in (node_trees store list) c.args.place))
-    (λ name named. named p ∙ sym is) c.write_place.ensures
+    c.in_ok-write_place.ensures p ∙ sym is
 
 pub returns : goal.returns
 returns c =
@@ -35,6 +25,6 @@ returns c =
     let read = slice_get_read list.nodes.items _ c.args.place n refl c.requires.within
     c.index.ensures in
     c.in_ok-push_str.ensures.bytes
-    ∙ ap (λ start. start ++ codes "r") c.in_ok-name.ensures.bytes
+    ∙ ap (λ start. start ++ codes "r") c.clear.ensures.bytes
     ∙ root_name store list c.args.place n c.requires.sound read c.requires.starts
     (numbered_source n.source c.in_default.not-Implicit)

@@ -17,7 +17,7 @@ returns-clause-below c =
     let maps = c.args.transforms.now.items in
     let read = map_read maps c.args.above c.index-2.result.now c.requires c.index-2.ensures in
     more_below maps c.push.new.self.items c.args.above c.args.own.now.parts.transform
-    c.len-number.result (omega (arith, c.len-number.ensures, c.args.transforms.now.ok.0))
+    _ (omega (arith, c.in_ok-number.ensures, c.len.ensures, c.args.transforms.now.ok.0))
     (c.in_ok-push.ensures.items
     ∙ ap (λ (m : Map). maps ++ m ∷ []) (c.then-computed.ensures
     ∙ ap (λ (m : Map). after m c.in-Some.own.now) (sym read)

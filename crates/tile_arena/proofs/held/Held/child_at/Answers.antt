@@ -40,5 +40,5 @@ returns-clause-tree c =
     c.index.result.now c.requires.held.children c.requires.at_hand c.index.ensures in
     child_tree (trees_of c.args._store.now held) c.args.place c.index.result.now a c.args.i
     c.requires.within
-    ∙ ap (λ k. Some (tree_in (trees_of c.args._store.now held) (c.index.result.now.first + k)))
-    (omega (arith, c.from.ensures))
+    ∙ ap (λ place. Some (tree_in (trees_of c.args._store.now held) place))
+    (omega (arith, c.from.ensures, c.from-2.ensures))

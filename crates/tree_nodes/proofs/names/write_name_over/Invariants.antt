@@ -3,7 +3,7 @@ use Rattle.expanded_tree.specs.Tree.{name_of}
 use Rattle.tree_nodes.specs.TreeIn.{tree_in}
 use Rattle.tree_nodes.specs.Nodes.{node_trees}
 use Rattle.tree_nodes.proofs.PlaceNames.{Upwards, below_name}
-use Rattle.tree_nodes.proofs.names.write_whole.Given as goal
+use Rattle.tree_nodes.proofs.names.write_name_over.Given as goal
 
 abbrev pub invariant-loop-node : goal.invariant-loop-node
 invariant-loop-node l = Upwards l.store l.list l.place l.at l.path.items
