@@ -107,7 +107,7 @@ fn outcome(alloc: Global, row: &Row) -> Result<(bool, String), Fail> {
     Ok((none_leaves, addresses(alloc, &wants)?))
 }
 
-static ROWS: [Row; 8] = [
+static ROWS: [Row; 12] = [
     Row {
         refine: Refine::Replace,
         children: &["b", "c"],
@@ -200,6 +200,52 @@ static ROWS: [Row; 8] = [
         none_leaves: true,
         wanted: "a b ",
     },
+    // A child's content is absent behind its parent's coming.
+    Row {
+        refine: Refine::Replace,
+        children: &["b", "c"],
+        before: "a",
+        address: "b",
+        change: Change::Absent,
+        resident: "a",
+        absent: "b",
+        none_leaves: true,
+        wanted: "c ",
+    },
+    // The last child is absent before its parent comes.
+    Row {
+        refine: Refine::Replace,
+        children: &["b", "c"],
+        before: "b",
+        address: "c",
+        change: Change::Absent,
+        resident: "b",
+        absent: "c",
+        none_leaves: false,
+        wanted: "",
+    },
+    Row {
+        refine: Refine::Add,
+        children: &["b", "c"],
+        before: "b",
+        address: "a",
+        change: Change::Absent,
+        resident: "b",
+        absent: "a",
+        none_leaves: true,
+        wanted: "c ",
+    },
+    Row {
+        refine: Refine::Add,
+        children: &["b", "c"],
+        before: "a b c",
+        address: "a",
+        change: Change::Gone,
+        resident: "b c",
+        absent: "",
+        none_leaves: true,
+        wanted: "a ",
+    },
 ];
 
 #[test]
@@ -235,6 +281,29 @@ fn several_views_want_each_key_once(rt: HostRuntime) -> Result<(), Fail> {
     assert_eq!(rt; addresses(alloc, &wants)?.as_str(), "a b ");
     let alone = views[0].wants(alloc, &shelf)?;
     assert_eq!(rt; addresses(alloc, &alone)?.as_str(), "a ");
+    Ok(())
+}
+
+#[test]
+fn a_content_of_many_tiles_comes_and_goes(rt: HostRuntime) -> Result<(), Fail> {
+    let alloc = rt.alloc();
+    let nothing = Shelf::new(alloc, "", "")?;
+    let there = Shelf::new(alloc, "b", "")?;
+    let root = tile(alloc, 100_000_000, Refine::Replace, "a")?.ok_or("too many contents")?;
+    let mut tiles = Vec::new(alloc);
+    for _ in 0..10_000 {
+        tiles.push(tile(alloc, 0, Refine::Replace, "b")?.ok_or("too many contents")?)?;
+    }
+    let mut tree = Fan::new(alloc, root, tiles).ok_or("too many children")?;
+    let mut notes = notes_at(alloc, &mut tree, &nothing, 10_000)?;
+    let address = Text::new(alloc, "b")?;
+    assert!(rt; notes.keeps(&address));
+    assert!(rt; !notes.becomes_resident(&address, &there));
+    let wants = notes.wants(alloc, &there)?;
+    assert_eq!(rt; addresses(alloc, &wants)?.as_str(), "");
+    notes.goes(&address);
+    let wants = notes.wants(alloc, &nothing)?;
+    assert_eq!(rt; addresses(alloc, &wants)?.as_str(), "a b ");
     Ok(())
 }
 
