@@ -1,8 +1,8 @@
 //! What happens to an engine.
 
+use crate::entry_view::EntryView;
 use crate::gone::Gone;
 use bytes::Bytes;
-use error_test::View;
 use frame_pins::Why;
 use lists::List;
 use tile_types::{Key, Order, Text, TextList};
@@ -27,14 +27,14 @@ pub enum Entry {
         pass: u32,
         id: u64,
         viewer: u8,
-        view: View,
+        view: EntryView,
         settled: bool,
     },
     /// A viewer looked, and has no frame.
     LookRefused {
         pass: u32,
         viewer: u8,
-        view: View,
+        view: EntryView,
         settled: bool,
         why: Why,
     },

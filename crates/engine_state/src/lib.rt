@@ -3,6 +3,7 @@
 #![tactic(auto)]
 
 mod entry;
+mod entry_view;
 mod fault_count;
 mod flight;
 mod frame_line;
@@ -14,6 +15,7 @@ mod resident;
 mod seen;
 
 pub use entry::{Entry, JournalList};
+pub use entry_view::EntryView;
 pub use fault_count::FaultCount;
 pub use flight::Flight;
 pub use frame_line::{FrameLine, FrameLineList};
@@ -22,3 +24,6 @@ pub use held_frame::HeldFrame;
 pub use limits::{ATTEMPT_LIMIT, FRAME_LIMIT, JOURNAL_MARGIN};
 pub use resident::Resident;
 pub use seen::Seen;
+
+#[cfg(test)]
+mod tests;
