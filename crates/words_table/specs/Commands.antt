@@ -8,7 +8,7 @@ use Rattle.tile_uri.specs.Addresses.{join}
 use Rattle.session_script.specs.Chains.{◌>>=◌}
 use Rattle.session_script.specs.Views.{view_of}
 use Rattle.words_table.specs.declared.command.Command.{Command}
-use Rattle.words_table.specs.declared.command.Command.TheVariants.{Cut, Tiles}
+use Rattle.words_table.specs.declared.command.Command.TheVariants.{Cut, Tiles, Meta}
 use Rattle.words_table.specs.declared.command_name.CommandName.{CommandName}
 use Rattle.words_table.specs.declared.command_name.CommandName.TheVariants as name
 use Rattle.words_table.specs.declared.error.WordsError.{WordsError}
@@ -24,6 +24,11 @@ texts = map (λ word. word.now)
 abbrev pub root_of : List ℕ → Option (List ℕ)
 root_of word = result_ok (join (codes "http://tiles/") word)
 
+-- the address of the root word where it stands alone
+abbrev pub root_alone : List (List ℕ) → Option (List ℕ)
+root_alone (root ∷ []) = root_of root
+root_alone _ = None
+
 -- a root word, and the command of its address
 abbrev pub Form : Type 0
 Form = List ℕ × (List ℕ → Command)
@@ -38,10 +43,16 @@ abbrev pub tiles_form : List (List ℕ) → Option Form
 tiles_form (root ∷ []) = Some (root, Tiles)
 tiles_form _ = None
 
+-- `meta ROOT`
+abbrev pub meta_form : List (List ℕ) → Option Form
+meta_form (root ∷ []) = Some (root, Meta)
+meta_form _ = None
+
 -- the form of the words behind the name of a command
 abbrev pub form_behind : CommandName × List (List ℕ) → Option Form
 form_behind (name.Cut, words) = cut_form words
 form_behind (name.Tiles, words) = tiles_form words
+form_behind (name.Meta, words) = meta_form words
 
 -- the command of a form, if its root word stands for an address
 abbrev pub command_in : Option Form → Option Command
@@ -53,7 +64,8 @@ command_in form = form >>= λ f. root_of f.0 >>= λ address. Some (f.1 address)
 abbrev pub name_of : List ℕ → Option CommandName
 name_of word =
     if bytes_eq word (codes "cut") then Some name.Cut
-    else (if bytes_eq word (codes "tiles") then Some name.Tiles else None)
+    else (if bytes_eq word (codes "tiles") then Some name.Tiles
+    else (if bytes_eq word (codes "meta") then Some name.Meta else None))
 
 -- the word begins with `-`
 abbrev pub is_option : List ℕ → Bool

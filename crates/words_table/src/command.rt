@@ -17,4 +17,9 @@ pub enum Command {
         /// The address of the root document.
         root: Address,
     },
+    /// `meta ROOT`: the metadata of the implicit tiles of all documents.
+    Meta {
+        /// The address of the root document.
+        root: Address,
+    },
 }

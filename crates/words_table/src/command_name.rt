@@ -10,6 +10,7 @@ ghost use Rattle.words_table.specs.Commands.{named, texts};
 pub(crate) enum CommandName {
     Cut,
     Tiles,
+    Meta,
 }
 
 /// What the first word names, and the words behind it, of which none begins with `-`. Takes no
@@ -32,6 +33,7 @@ fn name_of(word: &str) -> Option<CommandName>
     match word {
         "cut" => Some(CommandName::Cut),
         "tiles" => Some(CommandName::Tiles),
+        "meta" => Some(CommandName::Meta),
         _ => None,
     }
 }

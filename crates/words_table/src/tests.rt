@@ -15,6 +15,7 @@ enum Wanted<'a> {
     /// The cut of this root, with the view of `VIEW`.
     Cut(&'a str),
     Tiles(&'a str),
+    Meta(&'a str),
     Nothing,
 }
 
@@ -63,9 +64,28 @@ static TILES: [Row; 4] = [
     },
 ];
 
+static METAS: [Row; 4] = [
+    Row {
+        words: &["meta", "t.json"],
+        wanted: Wanted::Meta("http://tiles/t.json"),
+    },
+    Row {
+        words: &["meta", "../a b.json"],
+        wanted: Wanted::Meta("http://tiles/a%20b.json"),
+    },
+    Row {
+        words: &["meta", "http://example.org/t.json"],
+        wanted: Wanted::Meta("http://example.org/t.json"),
+    },
+    Row {
+        words: &["meta", ""],
+        wanted: Wanted::Meta("http://tiles/"),
+    },
+];
+
 /// Words that are no command: a word too few or too many, an option, another name, another spelling
 /// of a view, and what is no address.
-static NOTHING: [&[&str]; 26] = [
+static NOTHING: [&[&str]; 33] = [
     &[],
     &[""],
     &["cut"],
@@ -89,6 +109,13 @@ static NOTHING: [&[&str]; 26] = [
     &["tiles", "--root=t.json"],
     &["tiles", "t.json", "--help"],
     &["tiles", "http://["],
+    &["meta"],
+    &["meta", "t.json", VIEW],
+    &["meta", "t.json", "t.json"],
+    &["meta", "--", "t.json"],
+    &["meta", "t.json", "--help"],
+    &["meta", "http://["],
+    &["Meta", "t.json"],
     &["--help"],
     &["help"],
     &["stream", "t.json", "s.txt", "--budget", "0"],
@@ -102,6 +129,10 @@ fn check<R: AllocGlobal + Abort>(rt: &R, words: &[&str], wanted: Wanted) -> Resu
             check_view(rt, view)
         }
         (Ok(Command::Tiles { root }), Wanted::Tiles(address)) => {
+            assert_eq!(rt; root.text().as_str(), address);
+            Ok(())
+        }
+        (Ok(Command::Meta { root }), Wanted::Meta(address)) => {
             assert_eq!(rt; root.text().as_str(), address);
             Ok(())
         }
@@ -133,6 +164,14 @@ fn cuts(rt: HostRuntime) -> Result<(), Fail> {
 #[test]
 fn tiles(rt: HostRuntime) -> Result<(), Fail> {
     for row in TILES.iter() {
+        check(&rt, row.words, row.wanted)?;
+    }
+    Ok(())
+}
+
+#[test]
+fn metas(rt: HostRuntime) -> Result<(), Fail> {
+    for row in METAS.iter() {
         check(&rt, row.words, row.wanted)?;
     }
     Ok(())
