@@ -1,10 +1,9 @@
 -- What a run ends with, from its steps.
-use Rattle.std.proofs.Common.{◌≡◌, ◌∙◌, ◌+◌, ℕ, List, [], ◌∷◌, All, ap, arith, inl, inr, length, subst, sym}
+use Rattle.std.proofs.Common.{◌≡◌, ◌∙◌, ◌+◌, ℕ, None, List, [], ◌∷◌, All, ap, arith, inl, inr, length, subst, sym}
 use Rattle.std.proofs.lemmas.List.Elements.{All-head, All-nil, All-same}
 use Rattle.source_port.specs.Counts.{count_after}
 use Rattle.doc_store.specs.Docs.{Loaded, tileset_key}
 use Rattle.doc_store.specs.Store.{Stored}
-use Rattle.tree_nodes.specs.Trees.{stored_tree}
 use Rattle.words_table.specs.declared.command.Command.{Command}
 use Rattle.stream_cli.specs.Awaited.{WasAwaited}
 use Rattle.stream_cli.specs.Contents.{AreFetched, FetchedContent, WasGiven, bytes_in}
@@ -17,15 +16,16 @@ use Rattle.stream_cli.specs.Steps.{EndsRounds, IsLoadCause, IsOpenCause, AsksFor
 use Rattle.stream_cli.specs.declared.cause.Cause.{Cause}
 use Rattle.stream_cli.specs.declared.cause.Cause.TheVariants as cause
 use Rattle.stream_cli.proofs.Counting.{counts_behind}
-use Rattle.stream_cli.proofs.Librarys.{librarys}
+use Rattle.stream_cli.proofs.Librarys.{librarys, refused_librarys}
 use Rattle.stream_cli.proofs.Loads.{SourceSide, fault_behind, loads_behind, run_between, stops_behind}
 
 -- ---- a look
 
--- what is asked for is ready, and its contents were fetched
+-- what is asked for is ready, its schemas are read, and its contents were fetched
 pub record IsShown (asked : Asked) (source : SourceRun) (before : ℕ)
     (contents : List FetchedContent) : Type 0 where
   pub ready : asked.ready
+  pub schemas : asked.refused ≡ None
   pub fetched : AreFetched source.library asked.contents contents
   pub fetches : Fetches source (before + length contents)
   pub unfailed : Stays source.faults
@@ -36,6 +36,7 @@ abbrev shows : (asked : Asked) (source : SourceRun) (before : ℕ)
     → Shows asked source before printed
 shows asked source before contents printed shown h = record {
   ready = shown.ready;
+  schemas = shown.schemas;
   contents = contents;
   fetched = shown.fetched;
   fetches = shown.fetches;
@@ -54,6 +55,8 @@ prints_shown asked source before contents out U cause.Done shown printed =
 prints_shown asked source before contents out U cause.Words shown printed = absurd printed
 prints_shown asked source before contents out U (cause.Document error) shown printed =
     absurd printed
+prints_shown asked source before contents out U (cause.Schema error) shown printed =
+    absurd printed
 prints_shown asked source before contents out U (cause.Source count) shown printed =
     absurd printed
 prints_shown asked source before contents out U (cause.Out count) shown printed =
@@ -71,6 +74,7 @@ pub fetching_ends : (asked : Asked) (source : SourceRun) (before : ℕ) (out : O
 fetching_ends asked source before out U cause.Done same stops = absurd stops
 fetching_ends asked source before out U cause.Words same stops = absurd stops
 fetching_ends asked source before out U (cause.Document error) same stops = absurd stops
+fetching_ends asked source before out U (cause.Schema error) same stops = absurd stops
 fetching_ends asked source before out U (cause.Source count) same stops = (stops, same)
 fetching_ends asked source before out U (cause.Out count) same stops = absurd stops
 fetching_ends asked source before out U cause.Memory same stops = (stops, inl same)
@@ -79,10 +83,11 @@ fetching_ends asked source before out U cause.Tiles same stops = absurd stops
 fetching_ends asked source before out U cause.Listing same stops = absurd stops
 
 -- no content is asked for
-pub shows_nothing : (asked : Asked) (source : SourceRun) → asked.ready → asked.contents ≡ []
-    → IsIdle source 0 → IsShown asked source 0 []
-shows_nothing asked source ready none idle = record {
+pub shows_nothing : (asked : Asked) (source : SourceRun) → asked.ready → asked.refused ≡ None
+    → asked.contents ≡ [] → IsIdle source 0 → IsShown asked source 0 []
+shows_nothing asked source ready schemas none idle = record {
   ready = ready;
+  schemas = schemas;
   fetched = record { each = sym none; given = All-nil (WasGiven source.library) };
   fetches = idle.fetches;
   unfailed = idle.unfailed;
@@ -103,6 +108,7 @@ module _ (asked : Asked) (s t u : SourceSide) (before more : ℕ) (same : t.libr
       → Shows asked (run_between s u) (before + more) printed
   shows_behind printed shown = record {
     ready = shown.ready;
+    schemas = shown.schemas;
     contents = shown.contents;
     fetched =
         subst (λ library. AreFetched library asked.contents shown.contents) same shown.fetched;
@@ -123,6 +129,8 @@ module _ (asked : Asked) (s t u : SourceSide) (before more : ℕ) (same : t.libr
   look_behind out U cause.Done ends = shows_behind (GainsLines out) ends
   look_behind out U cause.Words ends = absurd ends
   look_behind out U (cause.Document error) ends = absurd ends
+  look_behind out U (cause.Schema error) ends =
+      (ends.0, ends.1, idle_behind ends.2, ends.3)
   look_behind out U (cause.Source count) ends =
       (fault_behind s t u before count fetched unfailed ends.0, ends.1)
   look_behind out U (cause.Out count) ends = (ends.0, shows_behind (GainsSome out) ends.1)
@@ -141,10 +149,10 @@ module _ (asked : Asked) (s t u : SourceSide) (before more : ℕ) (same : t.libr
 pub looks_behind : (command : Command) (s t u : SourceSide) (a b : Stored) (out : OutRun)
     (U : Type 0) (cause : Cause) → t.library ≡ s.library
     → LoadsOn (run_between s t) (WasAwaited command b) a b
-    → EndsLook (OfCommand command (stored_tree b)) (run_between t u) 0 out U cause
+    → EndsLook (OfCommand command b) (run_between t u) 0 out U cause
     → LooksBehind command (run_between s u) a out U cause
 looks_behind command s t u a b out U cause same loads ends =
-    let asked = OfCommand command (stored_tree b) in
+    let asked = OfCommand command b in
     let e : loads.more + 0 ≡ loads.more = omega arith in
     record {
       new = b;
@@ -164,6 +172,7 @@ pub open_ends : (command : Command) (source : SourceRun) (out : OutRun) (U : Typ
 open_ends command source out U cause.Done u stops = absurd stops
 open_ends command source out U cause.Words u stops = absurd stops
 open_ends command source out U (cause.Document error) u stops = (stops, u)
+open_ends command source out U (cause.Schema error) u stops = absurd stops
 open_ends command source out U (cause.Source count) u stops = (stops, u)
 open_ends command source out U (cause.Out count) u stops = absurd stops
 open_ends command source out U cause.Memory u stops = (stops, inl u)
@@ -193,6 +202,7 @@ load_ends : (command : Command) (source : SourceRun) (store : Stored) (out : Out
 load_ends command source store out U cause.Done loads same stops = absurd stops
 load_ends command source store out U cause.Words loads same stops = absurd stops
 load_ends command source store out U (cause.Document error) loads same stops = absurd stops
+load_ends command source store out U (cause.Schema error) loads same stops = absurd stops
 load_ends command source store out U (cause.Source count) loads same stops = (stops, same)
 load_ends command source store out U (cause.Out count) loads same stops = absurd stops
 load_ends command source store out U cause.Memory loads same stops = (
@@ -205,11 +215,12 @@ load_ends command source store out U cause.Listing loads same stops = absurd sto
 
 loaded_for : (command : Command) (source : SourceRun) (store : Stored)
     (printed : List (List ℕ) → Type 0) → Loads command source.library store
-    → (shown : Shows (OfCommand command (stored_tree store)) source (asked_for store) printed)
+    → (shown : Shows (OfCommand command store) source (asked_for store) printed)
     → IsLoadedFor command source store shown.contents
 loaded_for command source store printed loads shown = record {
   loads = loads;
   ready = shown.ready;
+  schemas = shown.schemas;
   fetched = shown.fetched;
   fetches = shown.fetches;
   unfailed = shown.unfailed;
@@ -220,7 +231,7 @@ loaded_for command source store printed loads shown = record {
 -- a look at what was loaded ended so
 look_ends : (command : Command) (source : SourceRun) (store : Stored) (out : OutRun)
     (U : Type 0) (cause : Cause) → Loads command source.library store
-    → EndsLook (OfCommand command (stored_tree store)) source (asked_for store) out U cause
+    → EndsLook (OfCommand command store) source (asked_for store) out U cause
     → Ends command source out U cause
 look_ends command source store out U cause.Done loads ends = record {
   store = store;
@@ -230,6 +241,18 @@ look_ends command source store out U cause.Done loads ends = record {
 }
 look_ends command source store out U cause.Words loads ends = absurd ends
 look_ends command source store out U (cause.Document error) loads ends = absurd ends
+look_ends command source store out U (cause.Schema error) loads ends = (
+  record {
+    store = store;
+    loads = loads;
+    ready = ends.0;
+    refused = ends.1;
+    librarys = refused_librarys command source.library store error loads ends.0 ends.1;
+    fetches = ends.2.fetches;
+    unfailed = ends.2.unfailed;
+  },
+  ends.3,
+)
 look_ends command source store out U (cause.Source count) loads ends = ends
 look_ends command source store out U (cause.Out count) loads ends = (
   ends.0,
@@ -287,7 +310,7 @@ rounds_end command s t u a out U cause same loads fetched unfailed ends = elim e
       (stops_behind s t u (asked_for a) cause fetched unfailed stopped.0)
   | inr looked ↦
       let b = looked.new in
-      let asked = OfCommand command (stored_tree b) in
+      let asked = OfCommand command b in
       let asks = subst (λ library. AsksFor library (WasAwaited command b) a b looked.more) same
       looked.asks in
       look_ends command (run_between s u) b out U cause

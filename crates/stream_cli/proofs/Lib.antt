@@ -1,4 +1,5 @@
 mod Counting
+mod EndParts
 mod Ending
 mod Entries
 mod Given
@@ -8,6 +9,8 @@ mod Librarys
 mod Limits
 mod Lines
 mod Loads
+mod Metadatas
+mod Origins
 mod Prefixes
 mod Puts
 mod Refusals

@@ -12,22 +12,26 @@ use Rattle.source_port.specs.Library.{Library, bytes_at}
 use Rattle.doc_store.specs.Docs.{Loaded, bytes_of}
 use Rattle.doc_store.specs.Store.{Stored, docs}
 use Rattle.doc_store.specs.declared.limits.TheConstants.{DOCUMENT_LIMIT}
-use Rattle.tree_expansion.specs.Whole.{AgreesWith, document_of, full, if_within}
+use Rattle.tree_expansion.specs.Whole.{AgreesWith, document_of, full, if_within, whole_docs}
 use Rattle.tree_expansion.proofs.Unseen.{cut_is_full}
 use Rattle.tree_expansion.proofs.Wholes.{whole_is_full}
 use Rattle.cut_core.specs.Cut.{ideal, with_all}
+use Rattle.meta_schema.specs.declared.error.SchemaError.{SchemaError}
+use Rattle.plain_tree.specs.Preorder.{nodes_of}
 use Rattle.tree_nodes.specs.Trees.{root_address, stored_tree}
 use Rattle.words_table.specs.declared.command.Command.{Command}
-use Rattle.words_table.specs.declared.command.Command.TheVariants.{Cut, Tiles}
+use Rattle.words_table.specs.declared.command.Command.TheVariants.{Cut, Tiles, Meta}
 use Rattle.stream_cli.specs.Awaited.{nothing_absent}
 use Rattle.stream_cli.specs.Listing.{listing}
 use Rattle.stream_cli.specs.Loading.{IsFetched, IsLoadedFrom, Loads, WasFetched, root_of}
 use Rattle.stream_cli.specs.Report.{cut_text}
 use Rattle.stream_cli.specs.Contents.{AreFetched, FetchedContent, bytes_in, contents_of, lacking}
-use Rattle.stream_cli.specs.Runs.{AreTheLibrarys, HadRoom, HasNone, IsReady, LeavesChildren, contents_asked, lines_asked}
+use Rattle.stream_cli.specs.Runs.{AreTheLibrarys, HadRoom, HasNone, IsReady, IsTheLibrarysCause, LeavesChildren, contents_asked, lines_asked, schema_refused}
 use Rattle.stream_cli.proofs.Given.{given_agree, same_cut}
 use Rattle.stream_cli.proofs.Lacking.{left_out}
 use Rattle.stream_cli.proofs.Limits.{is_within}
+use Rattle.stream_cli.proofs.Metadatas.{first_cause_is_full, metadata_is_full}
+use Rattle.tile_metadata.specs.Metadata.{first_cause, metadata}
 
 both : (a b : Bool) → (a && b) ≡ true → (a ≡ true) × (b ≡ true)
 both true true e = (refl, refl)
@@ -94,8 +98,9 @@ of_library : (command : Command) (library : Library) (store : Stored)
     → IsReady command (stored_tree store)
     → AreFetched (Some library) (contents_asked command (stored_tree store)) contents
     → LeavesChildren command library store
-    → lines_asked command (bytes_in contents) (stored_tree store)
-    ≡ lines_asked command (contents_of library) (full library (root_of command))
+    → lines_asked command (bytes_in contents) (docs store) (stored_tree store)
+    ≡ lines_asked command (contents_of library) (whole_docs library)
+    (full library (root_of command))
 unfolding stored_tree
 of_library (Cut address view) library store contents h root ready fetched leaves =
     let tree = stored_tree store in
@@ -112,6 +117,9 @@ of_library (Tiles address) library store contents h root ready fetched leaves =
     ap listing
     (whole_is_full library (docs store) h (root_address store) ready.loaded
     ∙ ap (full library) root)
+of_library (Meta address) library store contents h root ready fetched leaves =
+    metadata_is_full library (docs store) h (root_address store) ready.loaded
+    ∙ ap (λ a. metadata (whole_docs library) (full library a)) root
 
 pub librarys : (command : Command) (library : Option Library) (store : Stored)
     (contents : List FetchedContent) → Loads command library store
@@ -122,3 +130,26 @@ librarys command None store contents loads ready fetched = tt
 librarys command (Some library) store contents loads ready fetched = λ room leaves.
     of_library command library store contents
     (agrees library store loads.from_library room) (rw loads.root_first refl) ready fetched leaves
+
+-- a schema is refused for the cause that the library's whole tree has first
+same_cause : (command : Command) (library : Library) (store : Stored)
+    → AgreesWith library (docs store) → root_address store ≡ root_of command
+    → IsReady command (stored_tree store)
+    → schema_refused command (docs store) (stored_tree store)
+    ≡ schema_refused command (whole_docs library) (full library (root_of command))
+unfolding stored_tree
+same_cause (Cut address view) library store h root ready = refl
+same_cause (Tiles address) library store h root ready = refl
+same_cause (Meta address) library store h root ready =
+    first_cause_is_full library (docs store) h (root_address store) ready.loaded
+    ∙ ap (λ a. first_cause (whole_docs library) (nodes_of (full library a))) root
+
+pub refused_librarys : (command : Command) (library : Option Library) (store : Stored)
+    (error : SchemaError) → Loads command library store → IsReady command (stored_tree store)
+    → schema_refused command (docs store) (stored_tree store) ≡ Some error
+    → IsTheLibrarysCause command library store error
+refused_librarys command None store error loads ready refused = tt
+refused_librarys command (Some library) store error loads ready refused = λ room.
+    sym (same_cause command library store (agrees library store loads.from_library room)
+    (rw loads.root_first refl) ready)
+    ∙ refused

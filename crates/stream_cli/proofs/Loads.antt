@@ -361,6 +361,7 @@ pub stops_behind : (s t u : SourceSide) (before : ℕ) (cause : Cause)
 stops_behind s t u before cause.Done fetched unfailed stops = absurd stops
 stops_behind s t u before cause.Words fetched unfailed stops = absurd stops
 stops_behind s t u before (cause.Document error) fetched unfailed stops = absurd stops
+stops_behind s t u before (cause.Schema error) fetched unfailed stops = absurd stops
 stops_behind s t u before (cause.Source count) fetched unfailed stops =
     fault_behind s t u before count fetched unfailed stops
 stops_behind s t u before (cause.Out count) fetched unfailed stops = absurd stops

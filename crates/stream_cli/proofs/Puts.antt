@@ -1,9 +1,9 @@
 -- Lines that are put one by one.
 use Rattle.std.proofs.Common.{◌≡◌, ℕ, zero, suc, ◌+◌, ◌<◌, ◌≤◌, List, [], ◌∷◌, ◌++◌, length, map, take, drop}
 use Rattle.std.proofs.Common.{Option, Some, None, Ok, Err, refl, sym, ap, ◌∙◌, add-one, append-nil, append_assoc, get_or}
-use Rattle.std.proofs.Common.{arith, length-append}
+use Rattle.std.proofs.Common.{arith, length-append, subst}
 use Rattle.std.proofs.lemmas.List.{length-map, take_all}
-use Rattle.std.proofs.lemmas.Option.{slice_get-get_or}
+use Rattle.std.proofs.lemmas.Option.{get_or_from_slice_get, slice_get-get_or}
 use Rattle.std.specs.List.{flat_map}
 use Rattle.std.specs.Io.KnownBytes.{Appends, Keeps}
 use Rattle.source_port.specs.Counts.{count_after, next_count}
@@ -219,6 +219,48 @@ pub flat_of_map : {A B C : Type 0} (f : B → List C) (h : A → B) (xs : List A
     → flat_map (λ x. f (h x)) xs ≡ flat_map f (map h xs)
 flat_of_map f h [] = refl
 flat_of_map f h (x ∷ xs) = ap (λ lines. f (h x) ++ lines) (flat_of_map f h xs)
+
+-- ---- the lines of a list, one by one
+
+each_alone : (lines : List (List ℕ)) → flat_map (λ line. line ∷ []) lines ≡ lines
+each_alone [] = refl
+each_alone (line ∷ lines) = ap (λ ls. line ∷ ls) (each_alone lines)
+
+-- a line at a place, whatever stands for one behind the last
+line_at : (lines : List (List ℕ)) (i : ℕ) (line : List ℕ) → i < length lines
+    → line ≡ get_or lines i [] → line ≡ get_or lines i line
+line_at lines i line h e =
+    e ∙ sym (get_or_from_slice_get lines i (get_or lines i []) line (slice_get-get_or lines i [] h))
+
+-- one more
+pub line_more : (lines : List (List ℕ)) (i : ℕ) (line : List ℕ) (old now new : OutSide)
+    → i < length lines → line ≡ get_or lines i [] → GainsLines (between old now) (take i lines)
+    → GainsLines (between now new) (line ∷ [])
+    → GainsLines (between old new) (take (i + 1) lines)
+line_more lines i line old now new h e first more =
+    subst (GainsLines (between old new)) (each_alone (take (i + 1) lines))
+    (gains_more (λ l. l ∷ []) lines i line old now new h (line_at lines i line h e)
+    (subst (GainsLines (between old now)) (sym (each_alone (take i lines))) first) more)
+
+-- where one isn't put
+pub line_stops : (lines : List (List ℕ)) (cause : PutError) (i : ℕ) (line : List ℕ)
+    (old now new : OutSide) → i < length lines → line ≡ get_or lines i []
+    → GainsLines (between old now) (take i lines)
+    → PutsLines (Err cause) (between now new) (line ∷ [])
+    → PutsLines (Err cause) (between old new) lines
+line_stops lines cause i line old now new h e first stops =
+    subst (PutsLines (Err cause) (between old new)) (each_alone lines)
+    (stops_at_one (λ l. l ∷ []) lines cause i line old now new h (line_at lines i line h e)
+    (subst (GainsLines (between old now)) (sym (each_alone (take i lines))) first) stops)
+
+keeps_itself : (held : Option (List ℕ)) → Keeps held held
+keeps_itself None = tt
+keeps_itself (Some text) = refl
+
+-- where memory ran out before any was put
+pub nothing_put : (lines : List (List ℕ)) (side : OutSide)
+    → PutsLines (Err OutOfMemory) (between side side) lines
+nothing_put lines side = (refl, kept side.held side.held (joined lines) (keeps_itself side.held))
 
 -- ---- what a run ends with that prints
 

@@ -113,6 +113,7 @@ read_stop root bytes s t fetched counts unfailed (cause.Document error) read = r
   fetches = counts;
   unfailed = unfailed;
 }
+read_stop root bytes s t fetched counts unfailed (cause.Schema error) read = absurd read
 read_stop root bytes s t fetched counts unfailed (cause.Source count) read = absurd read
 read_stop root bytes s t fetched counts unfailed (cause.Out count) read = absurd read
 read_stop root bytes s t fetched counts unfailed cause.Memory read =

@@ -1,7 +1,10 @@
--- Looks that print: a cut, from what is kept of its contents, and a listing.
-use Rattle.std.proofs.Common.{◌≡◌, ◌∙◌, ◌+◌, ap, arith, filter, length, List, [], Option, refl, subst, sym}
+-- Looks that print: a cut, from what is kept of its contents, a listing, and metadata.
+use Rattle.std.proofs.Common.{◌≡◌, ◌∙◌, ◌+◌, ap, arith, filter, length, List, [], None, Option, refl, subst, sym}
 use Rattle.error_test.specs.Views.{ViewParts}
+use Rattle.doc_store.specs.Docs.{Docs}
 use Rattle.expanded_tree.specs.Tree.{Tree}
+use Rattle.plain_tree.specs.Preorder.{nodes_of}
+use Rattle.tile_metadata.specs.Metadata.{first_cause, metadata}
 use Rattle.cut_core.specs.Cut.{ideal}
 use Rattle.cut_core.specs.declared.line.CutLine.{CutLine}
 use Rattle.stream_cli.specs.Awaited.{nothing_absent}
@@ -9,7 +12,7 @@ use Rattle.stream_cli.specs.Contents.{AreFetched, addresses_in, bytes_in, lackin
 use Rattle.stream_cli.specs.Kept.{Kept, KeepsFetched, kept_text}
 use Rattle.stream_cli.specs.Listing.{listing}
 use Rattle.stream_cli.specs.Loading.{Fetches}
-use Rattle.stream_cli.specs.Looks.{EndsLook, IsIdle, OfCut, OfTiles}
+use Rattle.stream_cli.specs.Looks.{EndsLook, IsIdle, OfCut, OfMeta, OfTiles}
 use Rattle.stream_cli.specs.Printing.{IsPrintCause}
 use Rattle.stream_cli.specs.Report.{cut_text}
 use Rattle.stream_cli.specs.Runs.{IsListable, IsSeen}
@@ -34,6 +37,7 @@ cut_shown view root source kept lines e seen h out U cause printed =
     prints_shown (OfCut view root) source 0 h.contents out U cause
     (record {
       ready = seen;
+      schemas = refl;
       fetched = subst (λ ls. AreFetched source.library (addresses_in ls) h.contents) e h.fetched;
       fetches = subst (Fetches source) none_before h.fetches;
       unfailed = h.unfailed;
@@ -45,4 +49,12 @@ pub tiles_shown : (root : Option Tree) (source : SourceRun) → IsIdle source 0
     → IsPrintCause out (listing root) cause → EndsLook (OfTiles root) source 0 out U cause
 tiles_shown root source idle ready out U cause printed =
     prints_shown (OfTiles root) source 0 [] out U cause
-    (shows_nothing (OfTiles root) source ready refl idle) printed
+    (shows_nothing (OfTiles root) source ready refl refl idle) printed
+
+pub meta_shown : (docs : Docs) (root : Option Tree) (source : SourceRun) → IsIdle source 0
+    → IsListable root → first_cause docs (nodes_of root) ≡ None → (out : OutRun) (U : Type 0)
+    (cause : Cause) → IsPrintCause out (metadata docs root) cause
+    → EndsLook (OfMeta docs root) source 0 out U cause
+meta_shown docs root source idle ready schemas out U cause printed =
+    prints_shown (OfMeta docs root) source 0 [] out U cause
+    (shows_nothing (OfMeta docs root) source ready schemas refl idle) printed

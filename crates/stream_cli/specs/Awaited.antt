@@ -11,7 +11,7 @@ use Rattle.doc_store.specs.Store.{Stored}
 use Rattle.plain_tree.specs.Preorder.{nodes_of}
 use Rattle.tree_nodes.specs.Trees.{stored_tree}
 use Rattle.words_table.specs.declared.command.Command.{Command}
-use Rattle.words_table.specs.declared.command.Command.TheVariants.{Cut, Tiles}
+use Rattle.words_table.specs.declared.command.Command.TheVariants.{Cut, Tiles, Meta}
 
 -- every content is there
 abbrev pub nothing_absent : Holdings
@@ -29,6 +29,7 @@ awaited_anywhere root = flat_map (λ t. key_list (key_of t)) (nodes_of root)
 abbrev pub awaited : Command → Option Tree → List Key
 awaited (Cut address view) root = awaited_in_view view root
 awaited (Tiles address) root = awaited_anywhere root
+awaited (Meta address) root = awaited_anywhere root
 
 -- what an earlier store held comes first in the later one
 pub record IsEarlier (old new : Stored) : Type 0 where

@@ -4,6 +4,10 @@ use Rattle.tileset_schema.specs.declared.field.Field.{Field}
 use Rattle.tileset_schema.specs.declared.field.Field.TheVariants as field
 use Rattle.tileset_schema.specs.declared.error.DocumentError.{DocumentError}
 use Rattle.tileset_schema.specs.declared.error.DocumentError.TheVariants as error
+use Rattle.meta_schema.specs.declared.error.SchemaError.{SchemaError}
+use Rattle.meta_schema.specs.declared.error.SchemaError.TheVariants as schema
+use Rattle.tile_metadata.specs.declared.error.SchemasError.{SchemasError}
+use Rattle.tile_metadata.specs.declared.error.SchemasError.TheVariants as schemas
 use Rattle.source_port.specs.declared.source.FetchError.{FetchError}
 use Rattle.source_port.specs.declared.source.FetchError.TheVariants as fetch
 use Rattle.cut_core.specs.declared.error.CutError.{CutError}
@@ -13,7 +17,7 @@ use Rattle.plain_tree.specs.declared.error.PlainError.TheVariants as plain
 use Rattle.words_table.specs.declared.error.WordsError.{WordsError}
 use Rattle.words_table.specs.declared.error.WordsError.TheVariants as words
 use Rattle.stream_cli.specs.declared.cause.Cause.{Cause}
-use Rattle.stream_cli.specs.declared.cause.Cause.TheVariants.{Done, Words, Document, Source, Out, Memory, RootAbsent, Tiles, Listing}
+use Rattle.stream_cli.specs.declared.cause.Cause.TheVariants.{Done, Words, Document, Schema, Source, Out, Memory, RootAbsent, Tiles, Listing}
 use Rattle.stream_cli.specs.declared.cause.NotHere.{NotHere}
 use Rattle.stream_cli.specs.declared.cause.NotHere.TheVariants.{Missing, TooLong}
 
@@ -22,6 +26,7 @@ abbrev pub status_of : Cause → ℕ
 status_of Done = 0
 status_of Words = 1
 status_of (Document error) = 2
+status_of (Schema error) = 2
 status_of (Source count) = 3
 status_of (Out count) = 4
 status_of Memory = 7
@@ -54,6 +59,11 @@ load_cause fetch.OutOfMemory count = Some Memory
 abbrev pub document_cause : DocumentError → Cause
 document_cause error.OutOfMemory = Memory
 document_cause e = Document e
+
+-- the schemas of documents aren't read
+abbrev pub schemas_cause : SchemasError → Cause
+schemas_cause (schemas.Refused error) = Schema error
+schemas_cause schemas.OutOfMemory = Memory
 
 -- a view wasn't walked
 abbrev pub walk_cause : CutError → Cause
@@ -144,6 +154,14 @@ error_text e =
     error_name e ++ codes " " ++ or_dash field_name (field_of e) ++ codes " "
     ++ or_dash decimal (tile_of e)
 
+-- ---- what is printed of a schema that isn't read
+
+abbrev pub schema_error_name : SchemaError → List ℕ
+schema_error_name (schema.Shape field) = codes "Shape"
+schema_error_name schema.UnknownEnum = codes "UnknownEnum"
+schema_error_name schema.OutOfRange = codes "OutOfRange"
+schema_error_name schema.OutOfMemory = codes "OutOfMemory"
+
 -- ---- lines
 
 abbrev pub absence_name : NotHere → List ℕ
@@ -155,6 +173,7 @@ abbrev pub fault_line : Cause → List ℕ
 fault_line Done = []
 fault_line Words = codes "fault 1 words\n"
 fault_line (Document error) = codes "fault 2 document " ++ error_text error ++ codes "\n"
+fault_line (Schema error) = codes "fault 2 schema " ++ schema_error_name error ++ codes "\n"
 fault_line (Source count) = codes "fault 3 source " ++ decimal count ++ codes "\n"
 fault_line (Out count) = codes "fault 4 out " ++ decimal count ++ codes "\n"
 fault_line Memory = codes "fault 7 memory\n"

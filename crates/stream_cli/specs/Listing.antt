@@ -34,6 +34,12 @@ abbrev pub known_volume_text : Option Volume → List ℕ
 known_volume_text None = []
 known_volume_text (Some volume) = volume_text volume
 
+-- what stands behind the name in the line of a tile: ` REFINE ERROR VOLUME` and a line feed
+abbrev pub line_end : Facts → List ℕ
+line_end facts =
+    codes " " ++ refine_word facts.refine ++ codes " " ++ decimal facts.error ++ codes " "
+    ++ known_volume_text facts.volume ++ codes "\n"
+
 -- `tile NAME REFINE ERROR VOLUME`
 unfoldable pub tile_line : List ℕ → Facts → List ℕ
 tile_line name facts =

@@ -9,7 +9,7 @@ use Rattle.doc_store.specs.declared.limits.TheConstants.{DOCUMENT_LIMIT}
 use Rattle.tileset_schema.specs.Documents.{document}
 use Rattle.tileset_schema.specs.declared.error.DocumentError.{DocumentError}
 use Rattle.words_table.specs.declared.command.Command.{Command}
-use Rattle.words_table.specs.declared.command.Command.TheVariants.{Cut, Tiles}
+use Rattle.words_table.specs.declared.command.Command.TheVariants.{Cut, Tiles, Meta}
 use Rattle.stream_cli.specs.Awaited.{WasAwaited}
 use Rattle.stream_cli.specs.Sides.{SourceRun, HasRisenTo, Stays}
 use Rattle.stream_cli.specs.declared.cause.NotHere.{NotHere}
@@ -19,6 +19,7 @@ use Rattle.stream_cli.specs.declared.cause.NotHere.TheVariants.{Missing, TooLong
 abbrev pub root_of : Command → List ℕ
 root_of (Cut root view) = root
 root_of (Tiles root) = root
+root_of (Meta root) = root
 
 -- so many fetches were answered
 abbrev pub Fetches : SourceRun → ℕ → Type 0

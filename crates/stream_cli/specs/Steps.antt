@@ -7,7 +7,6 @@ use Rattle.words_table.specs.declared.command.Command.{Command}
 use Rattle.error_test.specs.Views.{ViewParts}
 use Rattle.expanded_tree.specs.Tree.{Tree}
 use Rattle.cut_core.specs.Visits.{VisitsTooMany}
-use Rattle.tree_nodes.specs.Trees.{stored_tree}
 use Rattle.tileset_schema.specs.Documents.{document}
 use Rattle.stream_cli.specs.Awaited.{IsEarlier, WasAwaited}
 use Rattle.stream_cli.specs.Loading.{Fetches, IsAbsent, IsFault, IsLoadedFrom, IsRefused, IsShort, asked_for}
@@ -72,7 +71,7 @@ pub record LooksBehind (command : Command) (source : SourceRun) (old : Stored) (
   pub new : Stored
   pub more : ℕ
   pub asks : AsksFor source.library (WasAwaited command new) old new more
-  pub ends : EndsLook (OfCommand command (stored_tree new)) source more out unprinted cause
+  pub ends : EndsLook (OfCommand command new) source more out unprinted cause
 
 -- how the rounds of a command end: loading stopped, and the output is as it was; or documents were
 -- loaded, and a look at their tree ended so

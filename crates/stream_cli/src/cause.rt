@@ -2,14 +2,16 @@
 
 ghost use Rattle.std.specs.Prelude.{◌≡◌, IfOk};
 ghost use Rattle.stream_cli.specs.Causes.{absence_name, document_cause, fault_line, load_cause};
-ghost use Rattle.stream_cli.specs.Causes.{root_cause, status_of, tree_cause, walk_cause};
-ghost use Rattle.stream_cli.specs.Causes.{words_cause};
+ghost use Rattle.stream_cli.specs.Causes.{root_cause, schemas_cause, status_of, tree_cause};
+ghost use Rattle.stream_cli.specs.Causes.{walk_cause, words_cause};
 
-use crate::refusal::error_text;
+use crate::refusal::{error_text, schema_error_name};
 use cut_core::CutError;
+use meta_schema::SchemaError;
 use plain_tree::PlainError;
 use source_port::FetchError;
 use std::alloc::{AllocError, AllocFailed, Global};
+use tile_metadata::SchemasError;
 use tile_types::Text;
 use tileset_schema::DocumentError;
 use words_table::WordsError;
@@ -23,6 +25,8 @@ pub enum Cause {
     Words,
     /// The root document isn't read.
     Document { error: DocumentError },
+    /// The schema of a document of implicit tiles isn't read.
+    Schema { error: SchemaError },
     /// A fetch failed. This is how many fetches of its source failed so far.
     Source { count: u64 },
     /// A put failed. This is how many puts of its sink failed so far.
@@ -109,6 +113,16 @@ impl Cause {
         }
     }
 
+    /// What a run ends with whose schemas aren't read.
+    pub fn of_schemas(error: SchemasError) -> Cause
+        ensures { result ≡ schemas_cause error }
+    {
+        match error {
+            SchemasError::Refused { cause } => Cause::Schema { error: cause },
+            SchemasError::OutOfMemory => Cause::Memory,
+        }
+    }
+
     /// What a run ends with whose view wasn't walked.
     pub fn of_walk(error: CutError) -> Cause
         ensures { result ≡ walk_cause error }
@@ -137,7 +151,7 @@ impl Cause {
         match self {
             Cause::Done => 0,
             Cause::Words => 1,
-            Cause::Document { .. } => 2,
+            Cause::Document { .. } | Cause::Schema { .. } => 2,
             Cause::Source { .. } => 3,
             Cause::Out { .. } => 4,
             Cause::Memory => 7,
@@ -156,6 +170,10 @@ impl Cause {
             Cause::Document { error } => {
                 let text = error_text(alloc, *error)?;
                 format!(in alloc; "fault 2 document {text}\n")?
+            }
+            Cause::Schema { error } => {
+                let name = schema_error_name(*error);
+                format!(in alloc; "fault 2 schema {name}\n")?
             }
             Cause::Source { count } => format!(in alloc; "fault 3 source {count}\n")?,
             Cause::Out { count } => format!(in alloc; "fault 4 out {count}\n")?,

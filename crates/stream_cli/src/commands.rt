@@ -1,12 +1,13 @@
 //! The commands, a file for each: which documents one waits for, and what it prints.
 
 ghost use Rattle.std.specs.Prelude.{◌≡◌};
-ghost use Rattle.tree_nodes.specs.Trees.{stored_tree};
 ghost use Rattle.stream_cli.specs.Looks.{Looks, OfCommand};
 ghost use Rattle.stream_cli.specs.Loading.{root_of};
 ghost use Rattle.stream_cli.specs.Sides.{out_run, source_run};
 
 mod cut;
+mod meta;
+mod pending;
 mod tiles;
 
 use crate::look::Look;
@@ -23,6 +24,7 @@ pub fn root_of(command: &Command) -> &Address
     match command {
         Command::Cut { root, .. } => root,
         Command::Tiles { root } => root,
+        Command::Meta { root } => root,
     }
 }
 
@@ -36,7 +38,7 @@ pub fn look<S: Source, W: Sink>(
     source: &mut S,
     out: &mut W,
 ) -> Look
-    ensures looks { Looks (OfCommand command.now (stored_tree store)) store
+    ensures looks { Looks (OfCommand command.now store) store
         (source_run S.library S.faults S.fetches source.old source.new)
         (out_run W.written W.faults W.puts out.old out.new) (out.new ≡ out.old) result }
     ensures library { S.library source.new ≡ S.library source.old }
@@ -44,5 +46,6 @@ pub fn look<S: Source, W: Sink>(
     match command {
         Command::Cut { view, .. } => cut::look(alloc, view, store, source, out),
         Command::Tiles { .. } => tiles::look(alloc, store, out),
+        Command::Meta { .. } => meta::look(alloc, store, out),
     }
 }

@@ -1,6 +1,6 @@
 //! What is kept of the contents that were fetched.
 
-ghost use Rattle.std.specs.Prelude.{◌≡◌, ◌++◌, ◌∷◌, [], false, option_map, OnOk};
+ghost use Rattle.std.specs.Prelude.{◌≡◌, ◌++◌, ◌∷◌, [], false, option_map, IfSome, OnOk};
 ghost use Rattle.stream_cli.specs.Kept.{facts_at, keeps};
 
 use content_digest::ContentFacts;
@@ -49,6 +49,33 @@ impl ContentMap {
             Some(Some(facts)) => Some(facts),
             _ => None,
         }
+    }
+
+    /// What is kept of the content at an address, where the entry of this number is its own.
+    fn entry_at(&self, number: usize, address: &Text) -> Option<Option<&ContentFacts>>
+        ensures { IfSome result (λ kept.
+            option_map (λ facts. facts.now) kept ≡ facts_at self.now address.now) }
+    {
+        match self.facts.get_index(number) {
+            Some((key, facts)) if key == address => Some(facts.as_ref()),
+            _ => None,
+        }
+    }
+
+    /// The same as `facts_at`, without a look-up where contents are asked for in the order in which
+    /// they came: the entry that was guessed last and the next one are tried before.
+    pub fn facts_near(&self, guess: &mut usize, address: &Text) -> Option<&ContentFacts>
+        ensures { option_map (λ facts. facts.now) result ≡ facts_at self.now address.now }
+    {
+        if let Some(facts) = self.entry_at(*guess, address) {
+            return facts;
+        }
+        let next = guess.saturating_add(1);
+        if let Some(facts) = self.entry_at(next, address) {
+            *guess = next;
+            return facts;
+        }
+        self.facts_at(address)
     }
 
     /// Adds what is kept of the content at an address that wasn't asked for before.

@@ -1,8 +1,9 @@
-//! What is printed of a document that isn't read.
+//! What is printed of a document or a schema that isn't read.
 
 ghost use Rattle.std.specs.Prelude.{◌≡◌, IfOk, string_bytes};
 ghost use Rattle.stream_cli.specs.Causes as causes;
 
+use meta_schema::SchemaError;
 use std::alloc::{AllocError, Global};
 use tileset_schema::{DocumentError, Field};
 
@@ -107,5 +108,17 @@ pub fn error_text(alloc: Global, error: DocumentError) -> Result<String, AllocEr
     match tile_of(error) {
         Some(tile) => format!(in alloc; "{name} {field} {tile}"),
         None => format!(in alloc; "{name} {field} -"),
+    }
+}
+
+/// The name of the cause of a schema that isn't read.
+pub fn schema_error_name(error: SchemaError) -> &'static str
+    ensures { result.now ≡ causes.schema_error_name error }
+{
+    match error {
+        SchemaError::Shape { .. } => "Shape",
+        SchemaError::UnknownEnum => "UnknownEnum",
+        SchemaError::OutOfRange => "OutOfRange",
+        SchemaError::OutOfMemory => "OutOfMemory",
     }
 }

@@ -41,8 +41,9 @@ fn count_there(lines: &[CutLine], contents: &ContentMap) -> usize
     ensures { result ≡ length (lines_there contents.now lines.now) }
 {
     let mut count = 0;
+    let mut guess = 0;
     for line in lines {
-        if contents.facts_at(&line.address).is_some() {
+        if contents.facts_near(&mut guess, &line.address).is_some() {
             count += 1;
         }
     }
@@ -60,8 +61,9 @@ fn put_shown<W: Sink>(
     ensures { PutsLines result (out_run W.written W.faults W.puts out.old out.new)
         (kept_lines contents.now lines.now) }
 {
+    let mut guess = 0;
     for line in lines {
-        match put_line(alloc, text, line, contents, out) {
+        match put_line(alloc, text, line, contents, &mut guess, out) {
             Ok(()) => {}
             Err(cause) => return Err(cause),
         }
@@ -69,18 +71,19 @@ fn put_shown<W: Sink>(
     Ok(())
 }
 
-/// Puts the line of a content, if it is there.
+/// Puts the line of a content, if it is there, of which the entry is guessed.
 fn put_line<W: Sink>(
     alloc: Global,
     text: &mut String,
     line: &CutLine,
     contents: &ContentMap,
+    guess: &mut usize,
     out: &mut W,
 ) -> Result<(), PutError>
     ensures { PutsLines result (out_run W.written W.faults W.puts out.old out.new)
         (kept_line line.now (facts_at contents.now line.now.address)) }
 {
-    let Some(facts) = contents.facts_at(&line.address) else {
+    let Some(facts) = contents.facts_near(guess, &line.address) else {
         return Ok(());
     };
     text.clear();

@@ -6,6 +6,7 @@ mod cut;
 mod edges;
 mod implicit;
 mod loading;
+mod meta;
 mod tiles;
 mod words;
 

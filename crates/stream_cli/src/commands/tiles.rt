@@ -1,23 +1,22 @@
 //! The command `tiles`.
 
-ghost use Rattle.std.specs.Prelude.{◌≡◌, IfOk};
+ghost use Rattle.std.specs.Prelude.{◌≡◌};
 ghost use Rattle.plain_tree.specs.Standing.{standing_of};
 ghost use Rattle.tree_nodes.specs.Trees.{stored_tree};
-ghost use Rattle.stream_cli.specs.Awaited.{awaited_anywhere};
 ghost use Rattle.stream_cli.specs.Listing.{listing};
 ghost use Rattle.stream_cli.specs.Looks.{Finds, IsIdle, Looks, OfTiles};
 ghost use Rattle.stream_cli.specs.Printing.{IsPrintCause};
 ghost use Rattle.stream_cli.specs.Sides.{SourceRun, out_run};
 
 use crate::cause::Cause;
+use crate::commands::pending::pending_keys;
 use crate::listing::put_tiles;
 use crate::look::Look;
 use crate::printing::cause_of;
 use doc_store::DocStore;
-use expanded_tree::TileTree;
 use plain_tree::PlainTree;
 use source_port::Sink;
-use std::alloc::{AllocError, Global};
+use std::alloc::Global;
 use tile_types::Key;
 
 /// Prints the tiles of the tree of the loaded documents, or says which further ones its nodes wait
@@ -50,20 +49,6 @@ fn print_or_wait<W: Sink>(alloc: Global, store: &DocStore, out: &mut W) -> Resul
         Ok(keys) => Ok(keys),
         Err(_) => Err(Cause::Memory),
     }
-}
-
-/// The keys of the pending nodes of a tree, in preorder.
-fn pending_keys(alloc: Global, tree: &PlainTree<'_>) -> Result<Vec<Key>, AllocError>
-    ensures { IfOk result (λ keys. keys.items ≡ awaited_anywhere (standing_of tree.now).tree) }
-{
-    let mut keys = Vec::new(alloc);
-    let nodes = tree.preorder(alloc)?;
-    for node in nodes.as_slice() {
-        if let Some(key) = tree.pending(*node) {
-            keys.push(key.copy(alloc)?)?;
-        }
-    }
-    Ok(keys)
 }
 
 /// Prints the tiles of a tree, in preorder.

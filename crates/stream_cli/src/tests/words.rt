@@ -38,7 +38,7 @@ static ROWS: [Row; 10] = [
     },
     Row {
         name: "no command",
-        words: &["meta", "t.json"],
+        words: &["explicit", "t.json"],
         ..NONE
     },
     Row {

@@ -1,4 +1,4 @@
-use Rattle.std.proofs.Common.{◌≡◌, map, rules, sym}
+use Rattle.std.proofs.Common.{◌≡◌, map, rules, sym, ◌∙◌}
 use Rattle.expanded_tree.specs.Tree.{addresses_of, facts_of, key_of, name_of}
 use Rattle.plain_tree.specs.Standing.{standing_of}
 use Rattle.stream_cli.specs.Listing.{content_line, tile_line}
@@ -10,6 +10,8 @@ pub returns-in-Ok-put : goal.returns-in-Ok-put
 returns-in-Ok-put g c =
     let side = side_at g.W.Sink.written g.W.Sink.faults g.W.Sink.puts in
     let t = (standing_of c.args.tree.now).node_tree c.args.node in
+    let named : c.as_str-named.result.now ≡ name_of t =
+    c.as_str-named.ensures.value ∙ c.in-Ok.ensures in
     let first : c.as_slice.result.now ≡ tile_line (name_of t) (facts_of t) = search rules in
     let tile = no_key (λ key. key.now) (key_of t) c.pending.result c.is_some.result
     c.is_some.ensures c.pending.ensures c.if-is_some.false in
@@ -18,12 +20,14 @@ returns-in-Ok-put g c =
     (map (content_line (name_of t)) (addresses_of t)) (side c.args.out.now) (side c.put.new.self)
     (side c.put_contents.new.out) (rw first at c.in-Ok-put.ensures.written)
     c.in-Ok-put.ensures.faults c.in-Ok-put.ensures.puts
-    (rw c.in-Ok.ensures at c.put_contents.ensures))
+    (rw named at c.put_contents.ensures))
 
-pub returns : goal.returns
-returns g c =
+pub returns-in-Err : goal.returns-in-Err
+returns-in-Err g c =
     let side = side_at g.W.Sink.written g.W.Sink.faults g.W.Sink.puts in
     let t = (standing_of c.args.tree.now).node_tree c.args.node in
+    let named : c.as_str-named.result.now ≡ name_of t =
+    c.as_str-named.ensures.value ∙ c.in-Ok.ensures in
     let first : c.as_slice.result.now ≡ tile_line (name_of t) (facts_of t) = search rules in
     let tile = no_key (λ key. key.now) (key_of t) c.pending.result c.is_some.result
     c.is_some.ensures c.pending.ensures c.if-is_some.false in

@@ -11,7 +11,7 @@ returns-in-Ok g c =
     let line = c.args.line.now in
     let facts = c.in-Some.facts.now in
     let there : facts_at c.args.contents.now line.address ≡ Some facts =
-    sym c.facts_at.ensures ∙ ap (option_map (λ it. it.now)) c.in-Some.is in
+    sym c.facts_near.ensures ∙ ap (option_map (λ it. it.now)) c.in-Some.is in
     let text : c.as_bytes.result.now ≡ show_line line.tile line.address facts.length facts.digest =
     search rules in
     subst (λ it. GainsLines (between (side c.args.out.now) (side c.put.new.self)) (kept_line line it))

@@ -1,6 +1,5 @@
 use Rattle.std.specs.Prelude.{Contains}
 use Rattle.std.proofs.Common.{◌≡◌, ◌∙◌, inl, inr, refl, subst}
-use Rattle.tree_nodes.specs.Trees.{stored_tree}
 use Rattle.stream_cli.specs.Awaited.{WasAwaited}
 use Rattle.stream_cli.specs.Looks.{EndsLook, OfCommand}
 use Rattle.stream_cli.specs.Sides.{out_run}
@@ -61,7 +60,7 @@ returns-in-Ended-clause-ends g c =
     let command = c.args.command.now in
     let new = c.look.new.out in
     let ends =
-    subst (λ old. EndsLook (OfCommand command (stored_tree c.loop.store))
+    subst (λ old. EndsLook (OfCommand command c.loop.store)
     (run_between (side c.loop.source) (side c.look.new.source)) 0
     (out_run g.W.Sink.written g.W.Sink.faults g.W.Sink.puts old new) (new ≡ old) c.in-Ended.cause)
     c.loop.invariant.unprinted c.in-Ended.ensures.looks in

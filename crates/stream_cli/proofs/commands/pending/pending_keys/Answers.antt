@@ -6,7 +6,7 @@ use Rattle.expanded_tree.specs.Tree.{key_of}
 use Rattle.plain_tree.specs.Preorder.{nodes_of}
 use Rattle.plain_tree.specs.Standing.{standing_of}
 use Rattle.stream_cli.proofs.Puts.{flat_of_map}
-use Rattle.stream_cli.proofs.commands.tiles.pending_keys.Goals as goal
+use Rattle.stream_cli.proofs.commands.pending.pending_keys.Goals as goal
 
 pub returns : goal.returns
 returns c =

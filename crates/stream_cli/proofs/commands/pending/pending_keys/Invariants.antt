@@ -3,7 +3,7 @@ use Rattle.std.specs.List.{flat_map}
 use Rattle.cut_core.specs.Wants.{key_list}
 use Rattle.expanded_tree.specs.Tree.{key_of}
 use Rattle.plain_tree.specs.Standing.{standing_of}
-use Rattle.stream_cli.proofs.commands.tiles.pending_keys.Given as goal
+use Rattle.stream_cli.proofs.commands.pending.pending_keys.Given as goal
 
 -- the keys of the pending ones of the nodes so far
 abbrev pub invariant-loop-node : goal.invariant-loop-node
