@@ -50,13 +50,13 @@ residents_then es a content out h =
     (residents-filter (λ x. not (list_any (same_text x) out)) es)
 
 -- what is pinned stays, so that no pin goes
-pins_left : (pins keep out : List (List ℕ))
-    → ((a : List ℕ) → is_held pins keep a ≡ true → list_any (same_text a) out ≡ false)
+pins_left : (pins out : List (List ℕ)) (keeps : List ℕ → Bool)
+    → ((a : List ℕ) → is_held pins keeps a ≡ true → list_any (same_text a) out ≡ false)
     → (es : List KeptEntry) → IsCounted pins es → (b : List ℕ)
     → times b (pins_in (filter (is_left out) es)) ≡ times b (pins_in es)
-pins_left pins keep out stays [] h b = refl
-pins_left pins keep out stays (e ∷ es) h b =
-    by (list_any (same_text e.0) out) refl (pins_left pins keep out stays es h.1 b)
+pins_left pins out keeps stays [] h b = refl
+pins_left pins out keeps stays (e ∷ es) h b =
+    by (list_any (same_text e.0) out) refl (pins_left pins out keeps stays es h.1 b)
   where
     left : List KeptEntry
     left = filter (is_left out) es
@@ -67,7 +67,7 @@ pins_left pins keep out stays (e ∷ es) h b =
         let own = h.0 in
         let pinned : nat_lt 0 (times e.0 pins) ≡ true = lt-ltb 0 (times e.0 pins) (omega arith) in
         let stay = stays e.0 (or_left (nat_lt 0 (times e.0 pins))
-        (list_any (same_text e.0) keep) pinned) in
+        (keeps e.0) pinned) in
         cc
 
     by : (t : Bool) → list_any (same_text e.0) out ≡ t
@@ -81,22 +81,22 @@ pins_left pins keep out stays (e ∷ es) h b =
         ∙ rest
         ∙ ap (λ n. times b (replicate n e.0 ++ pins_in es)) (sym (none e.1.pins refl t))
 
-pub pins_then : (es : List KeptEntry) (keep : List (List ℕ)) (budget size : ℕ)
+pub pins_then : (es : List KeptEntry) (keeps : List ℕ → Bool) (budget size : ℕ)
     (a content : List ℕ) → IsDistinct same_text (keys_of es)
     → list_any (same_text a)
-    (evicted_by (is_held (pins_in es) keep) budget (residents_in es) size) ≡ false
+    (evicted_by (is_held (pins_in es) keeps) budget (residents_in es) size) ≡ false
     → SamePins (pins_in es) (pins_in (filter
-    (is_left (evicted_by (is_held (pins_in es) keep) budget (residents_in es) size))
+    (is_left (evicted_by (is_held (pins_in es) keeps) budget (residents_in es) size))
     ((a, unpinned content) ∷ es)))
-pins_then es keep budget size a content d h = record {
+pins_then es keeps budget size a content d h = record {
   same = λ b.
       ap (λ t. times b (pins_in (cond (not t)
       ((a, unpinned content) ∷ filter (is_left out) es) (filter (is_left out) es)))) h
-      ∙ pins_left (pins_in es) keep out
-      (λ x held. none_held (is_held (pins_in es) keep) x budget (bytes_in (residents_in es) + size)
+      ∙ pins_left (pins_in es) out keeps
+      (λ x held. none_held (is_held (pins_in es) keeps) x budget (bytes_in (residents_in es) + size)
       (reverse (residents_in es)) held)
       es (counted_all es d) b;
 }
   where
     out : List (List ℕ)
-    out = evicted_by (is_held (pins_in es) keep) budget (residents_in es) size
+    out = evicted_by (is_held (pins_in es) keeps) budget (residents_in es) size

@@ -1,16 +1,14 @@
 -- The room rule: what goes to make room for a content.
 use Rattle.std.specs.Prelude.{ℕ, ◌+◌, ◌-◌, ◌≡◌, ◌≤◌, ◌<◌, Bool, true, not, ◌||◌, nat_lt, nat_le}
 use Rattle.std.specs.Prelude.{if◌then◌else◌, List, [], ◌∷◌, length, filter, reverse}
-use Rattle.std.specs.List.{list_any}
 use Rattle.tile_cache.specs.declared.error.AdmitError.{AdmitError}
 use Rattle.tile_cache.specs.declared.error.AdmitError.TheVariants.{Squeezed, OutOfMemory}
 use Rattle.tile_cache.specs.Pins.{times}
-use Rattle.tile_cache.specs.Residents.{Resident, bytes_in, same_text, without}
+use Rattle.tile_cache.specs.Residents.{Resident, bytes_in, without}
 
 -- the address is pinned, or is to be kept: what is there stays
-abbrev pub is_held : List (List ℕ) → List (List ℕ) → List ℕ → Bool
-is_held pins keep address =
-    nat_lt 0 (times address pins) || list_any (same_text address) keep
+abbrev pub is_held : List (List ℕ) → (List ℕ → Bool) → List ℕ → Bool
+is_held pins keeps address = nat_lt 0 (times address pins) || keeps address
 
 -- the bytes of the residents that stay
 abbrev pub bytes_held : (List ℕ → Bool) → List Resident → ℕ

@@ -12,7 +12,7 @@ ghost use Rattle.tile_cache.specs.Room.{RefusesAdmission};
 use crate::cache::Cache;
 use crate::entry::Entry;
 use crate::error::AdmitError;
-use crate::keep_set::KeepSet;
+use crate::keeping::Keeping;
 use content_digest::Content;
 use lru::LruCache;
 use std::alloc::{AllocError, Global};
@@ -32,19 +32,19 @@ struct Room {
 
 impl Cache {
     /// Makes a content resident, as the most recently used, and evicts others where it doesn't fit
-    /// beside them: from the least recently used on, but for those that are pinned or in `keep`,
-    /// and no more than it takes.
+    /// beside them: from the least recently used on, but for those that are pinned or that `keep`
+    /// keeps, and no more than it takes.
     ///
     /// Errors: `Squeezed` where it doesn't fit beside those, or `OutOfMemory`.
-    pub fn admit(
+    pub fn admit<K: Keeping>(
         &mut self,
         alloc: Global,
         address: &Text,
         content: Content,
-        keep: &KeepSet,
+        keep: &K,
     ) -> Result<Evicted, AdmitError>
         requires { has_address self.old.residents address.now ≡ false }
-        ensures evicted { let held = is_held self.old.pins keep.now in
+        ensures evicted { let held = is_held self.old.pins (K.keeps keep.now) in
             IfOk result (λ evicted. evicted
             ≡ evicted_by held self.old.budget self.old.residents (length content)) }
         ensures residents { IfOk result (λ evicted. self.new.residents
@@ -54,9 +54,9 @@ impl Cache {
         ensures budget { self.new.budget ≡ self.old.budget }
 
         // Squeezed exactly where the bytes that are held and its own pass the budget.
-        ensures fits { let held = is_held self.old.pins keep.now in
+        ensures fits { let held = is_held self.old.pins (K.keeps keep.now) in
             OnOk result (bytes_held held self.old.residents + length content ≤ self.old.budget) }
-        ensures refused { let held = is_held self.old.pins keep.now in
+        ensures refused { let held = is_held self.old.pins (K.keeps keep.now) in
             IfErr result (RefusesAdmission (bytes_held held self.old.residents)
             (length content) self.old.budget) }
         ensures unchanged { OnErr result (self.new ≡ self.old) }
@@ -81,8 +81,8 @@ impl Cache {
     }
 
     /// What goes for so many bytes, and how many are free then.
-    fn room_for(&self, alloc: Global, length: u64, keep: &KeepSet) -> Room
-        ensures { MakesRoom (is_held self.now.pins keep.now) self.now.budget self.now.residents
+    fn room_for<K: Keeping>(&self, alloc: Global, length: u64, keep: &K) -> Room
+        ensures { MakesRoom (is_held self.now.pins (K.keeps keep.now)) self.now.budget self.now.residents
             length result.free result.evicted result.is_whole }
     {
         // No address stands twice.
@@ -118,10 +118,10 @@ impl Room {
 }
 
 /// Whether what is kept at this address is pinned, or to be kept.
-fn stays(address: &Text, entry: &Entry, keep: &KeepSet) -> bool
-    ensures { result ≡ (nat_lt 0 entry.now.pins || list_any (same_text address.now) keep.now) }
+fn stays<K: Keeping>(address: &Text, entry: &Entry, keep: &K) -> bool
+    ensures { result ≡ (nat_lt 0 entry.now.pins || K.keeps keep.now address.now) }
 {
-    entry.pins > 0 || keep.contains(address)
+    entry.pins > 0 || keep.keeps(address)
 }
 
 /// Adds a copy of a text at the end.

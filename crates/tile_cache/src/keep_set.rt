@@ -5,6 +5,7 @@ ghost use Rattle.std.specs.Prelude.{Ok, IfOk, OnErr, IsTrue};
 ghost use Rattle.std.specs.List.{list_any};
 ghost use Rattle.tile_cache.specs.Residents.{same_text};
 
+use crate::keeping::Keeping;
 use indexmap::IndexSet;
 use std::alloc::{AllocError, Global};
 use std::marker::Model;
@@ -72,5 +73,13 @@ impl KeepSet {
         ensures { self.new ≡ [] }
     {
         self.addresses.clear();
+    }
+}
+
+impl Keeping for KeepSet {
+    ghost keeps = { λ set address. list_any (same_text address) set };
+
+    fn keeps(&self, address: &Text) -> bool {
+        self.contains(address)
     }
 }

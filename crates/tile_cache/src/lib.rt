@@ -6,11 +6,13 @@ mod cache;
 mod entry;
 mod error;
 mod keep_set;
+mod keeping;
 
 pub use admission::Evicted;
 pub use cache::{Cache, PIN_LIMIT};
 pub use error::AdmitError;
 pub use keep_set::KeepSet;
+pub use keeping::Keeping;
 
 #[cfg(test)]
 mod tests;

@@ -3,7 +3,7 @@
 
 ghost use Rattle.std.specs.Prelude.{◌≤◌};
 
-use crate::{AdmitError, Cache, Evicted, KeepSet, PIN_LIMIT};
+use crate::{AdmitError, Cache, Evicted, KeepSet, Keeping, PIN_LIMIT};
 use bytes::Bytes;
 use content_digest::Content;
 use std::alloc::{AllocError, Global};
@@ -150,6 +150,32 @@ static COURSES: [Course; 9] = [
     },
 ];
 
+/// Keeps every content.
+struct All;
+
+impl Keeping for All {
+    ghost use Rattle.std.specs.Prelude.{true};
+
+    ghost keeps = { λ _ _. true };
+
+    fn keeps(&self, _address: &Text) -> bool {
+        true
+    }
+}
+
+/// Keeps no content.
+struct Nothing;
+
+impl Keeping for Nothing {
+    ghost use Rattle.std.specs.Prelude.{false};
+
+    ghost keeps = { λ _ _. false };
+
+    fn keeps(&self, _address: &Text) -> bool {
+        false
+    }
+}
+
 static BYTES: [u8; 8] = *b"contents";
 
 /// A content of so many bytes.
@@ -160,11 +186,11 @@ fn content(alloc: Global, length: usize) -> Result<Content, AllocError>
 }
 
 /// Admits so many bytes at an address where nothing is resident.
-fn admit(
+fn admit<K: Keeping>(
     rt: &impl Abort,
     alloc: Global,
     cache: &mut Cache,
-    keep: &KeepSet,
+    keep: &K,
     address: &Text,
     length: usize,
 ) -> Result<Evicted, AdmitError> {
@@ -183,11 +209,11 @@ fn are(found: &[Text], expected: &[&str]) -> bool {
 }
 
 /// Admits so many bytes at an address, and compares what is evicted.
-fn admitted(
+fn admitted<K: Keeping>(
     rt: &impl Abort,
     alloc: Global,
     cache: &mut Cache,
-    keep: &KeepSet,
+    keep: &K,
     address: &Text,
     length: usize,
     evicted: &[&str],
@@ -198,11 +224,11 @@ fn admitted(
 }
 
 /// Tries to admit so many bytes at an address, and compares the refusal.
-fn squeezed(
+fn squeezed<K: Keeping>(
     rt: &impl Abort,
     alloc: Global,
     cache: &mut Cache,
-    keep: &KeepSet,
+    keep: &K,
     address: &Text,
     length: usize,
     held: u64,
@@ -275,6 +301,37 @@ fn courses(rt: HostRuntime) -> Result<(), Fail> {
     Ok(())
 }
 
+/// Where every content is kept nothing goes, and so one that doesn't fit is squeezed.
+#[test]
+fn all_are_kept(rt: HostRuntime) -> Result<(), Fail> {
+    let alloc = rt.alloc();
+    let mut cache = Cache::new(alloc, 4)?;
+    let (a, b) = (Text::new(alloc, "a")?, Text::new(alloc, LONG)?);
+    admitted(&rt, alloc, &mut cache, &All, &a, 3, &[]);
+    squeezed(&rt, alloc, &mut cache, &All, &b, 2, 3);
+    admitted(&rt, alloc, &mut cache, &All, &b, 1, &[]);
+    assert!(rt; cache.holds(&a));
+    assert_eq!(rt; cache.resident_bytes(), 4);
+    Ok(())
+}
+
+/// Where no content is kept all but the pinned ones go.
+#[test]
+fn none_is_kept(rt: HostRuntime) -> Result<(), Fail> {
+    let alloc = rt.alloc();
+    let mut cache = Cache::new(alloc, 4)?;
+    let (a, b) = (Text::new(alloc, "a")?, Text::new(alloc, LONG)?);
+    let c = Text::new(alloc, "c")?;
+    admitted(&rt, alloc, &mut cache, &Nothing, &a, 2, &[]);
+    admitted(&rt, alloc, &mut cache, &Nothing, &b, 2, &[]);
+    pin(&rt, &mut cache, &a);
+    squeezed(&rt, alloc, &mut cache, &Nothing, &c, 3, 2);
+    admitted(&rt, alloc, &mut cache, &Nothing, &c, 2, &[LONG]);
+    assert!(rt; cache.holds(&a) && !cache.holds(&b));
+    assert_eq!(rt; cache.resident_bytes(), 4);
+    Ok(())
+}
+
 #[test]
 fn a_content_is_shared(rt: HostRuntime) -> Result<(), Fail> {
     let alloc = rt.alloc();
@@ -315,6 +372,7 @@ fn addresses_to_keep(rt: HostRuntime) -> Result<(), Fail> {
     assert_eq!(rt; keep.len(), 2);
     assert!(rt; keep.contains(&Text::new(alloc, LONG)?));
     assert!(rt; !keep.contains(&Text::new(alloc, "b")?));
+    assert!(rt; keep.keeps(&Text::new(alloc, "a")?) && !keep.keeps(&Text::new(alloc, "b")?));
     keep.clear();
     assert!(rt; keep.is_empty());
     Ok(())
