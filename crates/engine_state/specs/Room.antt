@@ -23,9 +23,13 @@ kept_by s view = unless_too_many view (tree s) (kept_addresses view (holdings s)
 abbrev pub kept : State → List (List ℕ)
 kept s = flat_map (λ seen. kept_by s seen.view) s.views
 
+-- the latest views keep what is there
+abbrev pub is_kept : State → List ℕ → Bool
+is_kept s address = list_any (same_text address) (kept s)
+
 -- what is there is a line of a held frame, or the latest views keep it
 abbrev pub in_use : State → List ℕ → Bool
-in_use s address = is_held (pinned s.frames) (kept s) address
+in_use s = is_held (pinned s.frames) (is_kept s)
 
 -- ---- room for contents
 
