@@ -1,13 +1,18 @@
 -- How large the gap between a point and a box can be.
-use Rattle.std.proofs.Common.{arith, lit≤, subst, sym, ◌≡◌, ℕ, ◌+◌, ◌*◌, ◌^◌, ◌<◌, ◌≤◌, ◌+ℤ◌, ◌*ℤ◌}
-use Rattle.std.proofs.Common.{unsigned_abs}
+use Rattle.std.proofs.Common.{arith, ap, false, ◌∙◌, lit≤, lit<, refl, subst, sym, ◌≡◌, ℕ, zero, suc, ◌+◌, ◌-◌, ◌*◌, ◌/◌}
+use Rattle.std.proofs.Common.{◌^◌, ◌<◌, ◌≤◌, ◌==◌, ◌+ℤ◌, ◌*ℤ◌, pos, unsigned_abs, if◌then◌else◌}
+use Rattle.std.proofs.Math.Nat.{mul-div_cancel_left, mul-sub, mul_comm}
+use Rattle.std.proofs.lemmas.Bool.Decides.{nat_tests}
+use Rattle.std.proofs.lemmas.Int.{ints, unsigned_abs-mul}
 use Rattle.std.proofs.lemmas.Nat.{mul-le}
 use Rattle.fixed_geometry.specs.declared.point.Point.{Point}
 use Rattle.fixed_geometry.specs.Points.{IsWithin, component_limit, coordinate_limit, difference}
 use Rattle.fixed_geometry.specs.Points.{norm}
+use Rattle.fixed_geometry.specs.Root.{ceiling_root}
 use Rattle.fixed_geometry.proofs.Sizes.{abs_product, abs_sum, difference_size, norm_size}
 use Rattle.fixed_geometry.proofs.RootFacts.{below_root}
-use Rattle.volumes.specs.Distances.{along, squared}
+use Rattle.volumes.specs.Distances.{along, gap, squared}
+use Rattle.volumes.proofs.RootBounds.{ceiling_root_of_square}
 
 -- q goes no farther along the axis than three times its greatest component times r, which is at
 -- least the axis's length
@@ -57,3 +62,44 @@ three_squares x y z h g k =
       mul-le y y (2 ^ 39) (2 ^ 39) g g,
       mul-le z z (2 ^ 39) (2 ^ 39) k k,
     )
+
+-- ---- half axes of which two components are zero
+
+not_zero : (n : ℕ) → 0 < n → (n == 0) ≡ false
+not_zero n h = grind (arith, nat_tests)
+
+straight : (a h : ℕ)
+    → (if h * h == 0 then 0 else (a * h - h * h) / ceiling_root (h * h))
+    ≡ (if h == 0 then 0 else a - h)
+straight a zero = refl
+straight a (suc h) =
+    let both : a * suc h - suc h * suc h ≡ suc h * (a - suc h) =
+    ap (λ n. n - suc h * suc h) (mul_comm a (suc h)) ∙ sym (mul-sub (suc h) a (suc h)) in
+    let some : (suc h * suc h == 0) ≡ false = not_zero (suc h * suc h) (omega arith) in
+    let long : (suc h == 0) ≡ false = not_zero (suc h) (omega arith) in
+    rw (some, long, both, ceiling_root_of_square (suc h))
+    (mul-div_cancel_left (a - suc h) (omega arith))
+
+pub straight_x : (q axis : Point) → axis.y ≡ pos 0 → axis.z ≡ pos 0
+    → gap q axis ≡ (if unsigned_abs axis.x == 0 then 0 else unsigned_abs q.x - unsigned_abs axis.x)
+straight_x q axis y z =
+    let length : norm axis ≡ unsigned_abs axis.x * unsigned_abs axis.x = rw (y, z) (omega arith) in
+    let reach : along q axis ≡ unsigned_abs q.x * unsigned_abs axis.x =
+    rw (y, z) (omega (arith, ints, unsigned_abs-mul q.x axis.x)) in
+    rw (length, reach) (straight (unsigned_abs q.x) (unsigned_abs axis.x))
+
+pub straight_y : (q axis : Point) → axis.x ≡ pos 0 → axis.z ≡ pos 0
+    → gap q axis ≡ (if unsigned_abs axis.y == 0 then 0 else unsigned_abs q.y - unsigned_abs axis.y)
+straight_y q axis x z =
+    let length : norm axis ≡ unsigned_abs axis.y * unsigned_abs axis.y = rw (x, z) (omega arith) in
+    let reach : along q axis ≡ unsigned_abs q.y * unsigned_abs axis.y =
+    rw (x, z) (omega (arith, ints, unsigned_abs-mul q.y axis.y)) in
+    rw (length, reach) (straight (unsigned_abs q.y) (unsigned_abs axis.y))
+
+pub straight_z : (q axis : Point) → axis.x ≡ pos 0 → axis.y ≡ pos 0
+    → gap q axis ≡ (if unsigned_abs axis.z == 0 then 0 else unsigned_abs q.z - unsigned_abs axis.z)
+straight_z q axis x y =
+    let length : norm axis ≡ unsigned_abs axis.z * unsigned_abs axis.z = rw (x, y) (omega arith) in
+    let reach : along q axis ≡ unsigned_abs q.z * unsigned_abs axis.z =
+    rw (x, y) (omega (arith, ints, unsigned_abs-mul q.z axis.z)) in
+    rw (length, reach) (straight (unsigned_abs q.z) (unsigned_abs axis.z))

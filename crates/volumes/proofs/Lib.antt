@@ -3,3 +3,4 @@ pub mod Corners
 pub mod Gaps
 pub mod Products
 pub mod RootBounds
+mod ShiftedSizes

@@ -1,19 +1,19 @@
 -- Products and sums that fit 64 bits.
-use Rattle.std.proofs.Common.{arith, ◌≡◌, ◌∙◌, ◌^◌, ◌≤◌, ℤ, ◌+ℤ◌, ◌*ℤ◌, unsigned_abs, w64, ap}
+use Rattle.std.proofs.Common.{arith, ◌≡◌, ◌∙◌, ℕ, ◌*◌, ◌^◌, ◌≤◌, ℤ, ◌+ℤ◌, ◌*ℤ◌, unsigned_abs, w64}
+use Rattle.std.proofs.Common.{ap}
 use Rattle.std.specs.Prelude.{FitsSigned}
 use Rattle.std.proofs.lemmas.Int.{ints, fits_signed_from_abs, to_z-of_z}
 use mir.Val.{to_z, of_z}
 use Rattle.fixed_geometry.proofs.Sizes.{abs_product}
-use Rattle.fixed_geometry.specs.Points.{coordinate_limit}
-use Rattle.volumes.specs.Limits.{normal_limit}
 
 -- the code's a * b
-pub product_is : (a b : ℤ) → unsigned_abs a ≤ normal_limit → unsigned_abs b ≤ coordinate_limit
+pub product_is : (a b : ℤ) (m n : ℕ) → unsigned_abs a ≤ m → unsigned_abs b ≤ n → m ≤ 2 ^ 62
+    → n ≤ 2 ^ 62 → m * n ≤ 2 ^ 62
     → to_z w64 (of_z w64 (to_z w64 (of_z w64 a) *ℤ to_z w64 (of_z w64 b))) ≡ a *ℤ b
-product_is a b h g =
+product_is a b m n h g hm gn all =
     let fa : FitsSigned w64 a = fits_signed_from_abs w64 a (omega arith) in
     let fb : FitsSigned w64 b = fits_signed_from_abs w64 b (omega arith) in
-    let small = abs_product a b normal_limit coordinate_limit h g in
+    let small = abs_product a b m n h g in
     let fits : FitsSigned w64 (a *ℤ b) = fits_signed_from_abs w64 (a *ℤ b) (omega arith) in
     let same : to_z w64 (of_z w64 a) *ℤ to_z w64 (of_z w64 b) ≡ a *ℤ b =
     ap (λ z. z *ℤ to_z w64 (of_z w64 b)) (to_z-of_z w64 a fa)

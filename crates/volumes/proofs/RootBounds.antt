@@ -1,10 +1,11 @@
 -- Bounds on a square root that is rounded down, by squares.
-use Rattle.std.proofs.Common.{arith, ◌≡◌, ℕ, ◌+◌, ◌*◌, ◌<◌, ◌≤◌, ◌-◌, ◌^◌, ltb, leb, min, ⊎_elim}
+use Rattle.std.proofs.Common.{arith, ◌≡◌, ◌∙◌, ℕ, ◌+◌, ◌*◌, ◌<◌, ◌≤◌, ◌-◌, ◌^◌, ◌==◌, ltb, leb, min}
+use Rattle.std.proofs.Common.{⊎_elim, ap, sym, if◌then◌else◌}
 use Rattle.std.proofs.Math.Nat.{mul-le-mul}
 use Rattle.std.proofs.lemmas.Bool.{cases_lt}
 use Rattle.std.proofs.lemmas.Bool.Decides.{nat_tests}
-use Rattle.fixed_geometry.specs.Root.{floor_root}
-use Rattle.fixed_geometry.proofs.RootFacts.{floor_root-is}
+use Rattle.fixed_geometry.specs.Root.{floor_root, ceiling_root}
+use Rattle.fixed_geometry.proofs.RootFacts.{floor_root-is, is_floor_root}
 use Rattle.volumes.specs.Distances.{squared}
 
 -- below the square of m + 1 the root is at most m
@@ -50,3 +51,32 @@ reach_test root r bound h = ⊎_elim
     (λ (g : bound < root - r). grind (arith, nat_tests))
     (λ (g : root - r ≤ bound). grind (arith, nat_tests))
     (cases_lt bound (root - r))
+
+-- ---- roots of squares
+
+pub floor_root_of_square : (n : ℕ) → floor_root (squared n) ≡ n
+floor_root_of_square n = sym (is_floor_root (n * n) n (omega arith) (omega arith))
+
+ceiling_step : (r n : ℕ) → r ≡ n → (if r * r == n * n then r else r + 1) ≡ n
+ceiling_step r n e = rw e (grind (arith, nat_tests))
+
+pub ceiling_root_of_square : (n : ℕ) → ceiling_root (n * n) ≡ n
+ceiling_root_of_square n = ceiling_step (floor_root (n * n)) n (floor_root_of_square n)
+
+pub root_of_first : (a b c : ℕ) → b ≡ 0 → c ≡ 0
+    → floor_root (squared a + squared b + squared c) ≡ a
+root_of_first a b c e f =
+    let one : squared a + squared b + squared c ≡ squared a = rw (e, f) (omega arith) in
+    ap floor_root one ∙ floor_root_of_square a
+
+pub root_of_second : (a b c : ℕ) → a ≡ 0 → c ≡ 0
+    → floor_root (squared a + squared b + squared c) ≡ b
+root_of_second a b c e f =
+    let one : squared a + squared b + squared c ≡ squared b = rw (e, f) (omega arith) in
+    ap floor_root one ∙ floor_root_of_square b
+
+pub root_of_third : (a b c : ℕ) → a ≡ 0 → b ≡ 0
+    → floor_root (squared a + squared b + squared c) ≡ c
+root_of_third a b c e f =
+    let one : squared a + squared b + squared c ≡ squared c = rw (e, f) (omega arith) in
+    ap floor_root one ∙ floor_root_of_square c

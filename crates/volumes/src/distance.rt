@@ -1,6 +1,7 @@
 //! How far a point is outside a volume.
 
-ghost use Rattle.std.specs.Prelude.{IsTrue, ◌≡◌, ◌<◌, ◌≤◌, ◌^◌, ◌*◌, ◌/◌, nat_le, unsigned_abs};
+ghost use Rattle.std.specs.Prelude.{IsTrue, ◌≡◌, ◌<◌, ◌≤◌, ◌^◌, ◌+◌, ◌-◌, ◌*◌, ◌/◌, ◌==◌, nat_le};
+ghost use Rattle.std.specs.Prelude.{if◌then◌else◌, unsigned_abs};
 ghost use Rattle.fixed_geometry.specs.Points.{IsWithin, coordinate_limit, difference, norm};
 ghost use Rattle.fixed_geometry.specs.Root.{floor_root};
 ghost use Rattle.volumes.specs.Distances.{contains, distance, gap, is_between_faces, is_inside_box};
@@ -20,7 +21,8 @@ impl Volume {
     {
         match *self {
             Volume::Oriented { centre, axes } => {
-                root_floor(squared_gaps(p.minus(centre), &axes)) as u64
+                let q = p.minus(centre);
+                root_of_gaps(gap(q, axes[0]), gap(q, axes[1]), gap(q, axes[2]))
             }
             Volume::Ball { centre, radius } => {
                 let apart = root_floor(squared_apart(p, centre)) as u64;
@@ -72,6 +74,27 @@ fn squared_apart(p: Point, q: Point) -> u128
     p.minus(q).norm()
 }
 
+/// The root of the sum of the squares of three gaps, rounded down. Where all but one are zero, it
+/// is that one.
+fn root_of_gaps(a: u64, b: u64, c: u64) -> u64
+    requires a { a ≤ 2 ^ 39 }
+    requires b { b ≤ 2 ^ 39 }
+    requires c { c ≤ 2 ^ 39 }
+    ensures value { result ≡ floor_root (squared a + squared b + squared c) }
+    ensures bound { result ≤ distance_limit }
+{
+    if b == 0 && c == 0 {
+        return a;
+    }
+    if a == 0 && c == 0 {
+        return b;
+    }
+    if a == 0 && b == 0 {
+        return c;
+    }
+    root_floor(squared(a) + squared(b) + squared(c)) as u64
+}
+
 /// The sum of the squares of the gaps along the three half axes. `q` leads from the box's centre
 /// to the point.
 fn squared_gaps(q: Point, axes: &[Point; 3]) -> u128
@@ -84,7 +107,40 @@ fn squared_gaps(q: Point, axes: &[Point; 3]) -> u128
 }
 
 /// How far the point is beyond the box along this half axis.
+#[inline(always)]
 fn gap(q: Point, axis: Point) -> u64
+    requires point { IsWithin (2 * coordinate_limit) q }
+    requires axis { IsWithin coordinate_limit axis }
+    ensures value { result ≡ gap q axis }
+    ensures bound { result ≤ 2 ^ 39 }
+{
+    if axis.y == 0 && axis.z == 0 {
+        return straight_gap(q.x, axis.x);
+    }
+    if axis.x == 0 && axis.z == 0 {
+        return straight_gap(q.y, axis.y);
+    }
+    if axis.x == 0 && axis.y == 0 {
+        return straight_gap(q.z, axis.z);
+    }
+    slanted_gap(q, axis)
+}
+
+/// How far the point is beyond the box along a half axis of which all components but this are zero:
+/// then it takes no product, no root and no quotient.
+fn straight_gap(q: i64, component: i64) -> u64
+    ensures { let size = unsigned_abs component in
+        result ≡ (if size == 0 then 0 else unsigned_abs q - size) }
+{
+    if component == 0 {
+        return 0;
+    }
+    q.unsigned_abs().saturating_sub(component.unsigned_abs())
+}
+
+/// How far the point is beyond the box along any half axis. It isn't inlined, so that `gap` is.
+#[inline(never)]
+fn slanted_gap(q: Point, axis: Point) -> u64
     requires point { IsWithin (2 * coordinate_limit) q }
     requires axis { IsWithin coordinate_limit axis }
     ensures value { result ≡ gap q axis }

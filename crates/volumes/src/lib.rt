@@ -10,6 +10,7 @@ mod limits;
 mod moves;
 mod plane;
 mod planes;
+mod shifts;
 #[cfg(test)]
 mod tests;
 mod volume;

@@ -94,6 +94,11 @@ fn cells_of_a_box(rt: HostRuntime) {
         axes: [point(2000, 0, 0), point(0, 2000, 0), point(0, 0, 2000)],
     };
     assert_eq!(rt; cube().split_oct(2, 0, 2, 3), sixty_fourth);
+    let smallest = Volume::Oriented {
+        centre: point(-8000, 8000, 0),
+        axes: [point(1, 0, 0), point(0, 1, 0), point(0, 0, 8000)],
+    };
+    assert_eq!(rt; cube().split_quad(29, 0, 536870911), smallest);
 }
 
 fn read_sixteen(texts: [&'static str; 16]) -> Sixteen

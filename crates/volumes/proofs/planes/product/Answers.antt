@@ -1,4 +1,4 @@
-use Rattle.std.proofs.Common.{ℤ, ◌*◌, ◌≤◌, unsigned_abs, subst, sym}
+use Rattle.std.proofs.Common.{ℤ, ◌*◌, ◌≤◌, unsigned_abs, subst, sym, lit≤}
 use Rattle.fixed_geometry.proofs.Sizes.{abs_product}
 use Rattle.fixed_geometry.specs.Points.{coordinate_limit}
 use Rattle.volumes.specs.Limits.{normal_limit}
@@ -6,7 +6,8 @@ use Rattle.volumes.proofs.Products.{product_is}
 use Rattle.volumes.proofs.planes.product.Goals as goal
 
 pub returns-clause-value : goal.returns-clause-value
-returns-clause-value c = product_is c.args.a c.args.b c.requires.a c.requires.b
+returns-clause-value c = product_is c.args.a c.args.b normal_limit coordinate_limit c.requires.a
+    c.requires.b (lit≤ tt) (lit≤ tt) (lit≤ tt)
 
 pub returns-clause-bound : goal.returns-clause-bound
 returns-clause-bound c =
