@@ -8,6 +8,7 @@ ghost use Rattle.cut_core.specs.Laws.{ShowsAtPlaces, ShowsNoneBelow, ShowsWhatSt
 ghost use Rattle.cut_core.specs.WholeWalk.{WalksWhole};
 
 use crate::error::CutError;
+use crate::findings::Findings;
 use crate::holdings::Holdings;
 use crate::line::{CutLine, CutList};
 use crate::walk::walk_whole;
@@ -71,7 +72,10 @@ fn walked_lines<T: TileTree, H: Holdings>(
     ensures walk { WalksWhole result view.now (T.standing tree.old) (T.standing tree.new) }
 {
     let found = walk_whole(alloc, tree, holdings, view)?;
-    Ok(lines_shown(alloc, tree, holdings, &found.shown)?)
+    // The lines take memory, and none of them needs the notes.
+    let Findings { shown, visits } = found;
+    drop(visits);
+    Ok(lines_shown(alloc, tree, holdings, &shown)?)
 }
 
 /// The lines of the tiles that the view shows of the tree, while these contents are resident (OGC

@@ -6,6 +6,7 @@ ghost use Rattle.cut_core.specs.WholeWalk.{WalksWhole};
 
 use crate::cuts::{AllResident, lines_shown};
 use crate::error::CutError;
+use crate::findings::Findings;
 use crate::holdings::Holdings;
 use crate::line::CutList;
 use crate::walk::{Context, walk_whole};
@@ -44,9 +45,12 @@ pub fn ideal_or_want<T: TileTree, H: Holdings>(
         holdings: &all,
         view,
     };
-    let wants = wants_of_visits(tree, &context, &found.visits)?.into_list(alloc)?;
+    let Findings { shown, visits } = found;
+    let wants = wants_of_visits(tree, &context, &visits)?.into_list(alloc)?;
     if !wants.is_empty() {
         return Ok(Sight::Awaits(wants));
     }
-    Ok(Sight::Lines(lines_shown(alloc, tree, &all, &found.shown)?))
+    // The lines take memory, and none of them needs the notes.
+    drop(visits);
+    Ok(Sight::Lines(lines_shown(alloc, tree, &all, &shown)?))
 }
