@@ -61,7 +61,7 @@ fn document(alloc: Global, base: &Base, tiling: &str, contents: &str) -> Result<
 fn root_of<'a>(document: &'a Document, base: &'a Base) -> Option<ImplicitRoot<'a>> {
     let tile = document.tiles().first()?;
     let part = tile.implicit()?;
-    Some(ImplicitRoot::new(part, base, *tile.volume(), tile.error()))
+    Some(ImplicitRoot::new(part, base, tile.volume(), tile.error()))
 }
 
 /// The kind of a subtree's key.

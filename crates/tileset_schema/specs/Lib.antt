@@ -16,6 +16,7 @@ pub mod Tilings
 pub mod PartsBy
 pub mod Firsts
 pub mod FirstSeen
+pub mod Aligned
 pub mod Rests
 pub mod RowBy
 pub mod Kept

@@ -60,11 +60,12 @@ fn push_common(
     let error = geometric_error(own.geometric_error, tile)?;
     let refine = own_refinement(alloc, own.refine, tile)?;
     let first = common_content(alloc, base, own.content, tile)?;
-    let rest = Rest::common(Marks {
+    let marks = Marks {
         refine,
         content: first.kind,
-    });
-    tiles.push(Written::new(volume, error, first, rest))?;
+    };
+    let rest = Rest::common(alloc, marks, volume)?;
+    tiles.push(Written::new(error, first, rest))?;
     Ok(())
 }
 
@@ -102,8 +103,8 @@ fn push_rare(
         refine,
         content: first.kind,
     };
-    let rest = Rest::new(alloc, marks, request, transform, more, implicit)?;
-    tiles.push(Written::new(volume, error, first, rest))?;
+    let rest = Rest::new(alloc, marks, volume, request, transform, more, implicit)?;
+    tiles.push(Written::new(error, first, rest))?;
     Ok(())
 }
 

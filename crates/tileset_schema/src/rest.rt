@@ -1,11 +1,13 @@
-//! What a tile says beside its volume, its error and its first content: little for most tiles.
+//! What a tile says beside its error and its first content: little but its volume for most tiles.
 
-ghost use Rattle.std.specs.Prelude.{◌≡◌, [], None, IfOk, option_map};
+ghost use Rattle.std.specs.Prelude.{◌≡◌, IfOk, IfSome, option_map};
+ghost use Rattle.tileset_schema.specs.Aligned.{aligned_axes};
 ghost use Rattle.tileset_schema.specs.Rests as rests;
 ghost use Rattle.tileset_schema.specs.Seen.{part_seen};
+ghost use Rattle.volumes.specs.declared.volume.Volume.TheVariants.{Oriented as oriented};
 
 use crate::implicit_part::ImplicitPart;
-use fixed_geometry::Affine;
+use fixed_geometry::{Affine, Point};
 use std::alloc::{AllocError, Global};
 use tile_types::Refine;
 use tile_uri::Address;
@@ -27,9 +29,11 @@ pub struct Marks {
     pub content: ContentKind,
 }
 
-/// What few tiles say.
+/// What few tiles say, and the volume of a tile that says any of it.
 #[derive(Drop)]
 pub struct Rare {
+    /// The bounding volume, in millimetres.
+    pub volume: Volume,
     /// The viewer request volume, in millimetres.
     pub request: Option<Volume>,
     /// The tile's own transform.
@@ -40,13 +44,30 @@ pub struct Rare {
     pub implicit: Option<Box<ImplicitPart>>,
 }
 
-/// The marks of a tile, how many tiles its tree has, and what few tiles say, where it says any of
-/// it. The small fields stand in the room behind the tag of the enum.
+/// The marks of a tile, how many tiles its tree has, its volume in millimetres, and what few tiles
+/// say, where it says any of it. A sphere and a box along the axes of the coordinates lie in the
+/// value itself. The small fields stand in the room behind the tag of the enum.
 #[derive(Drop)]
 pub enum Rest {
-    Common {
+    /// In a sphere.
+    Ball {
         marks: Marks,
         size: u32,
+        centre: Point,
+        radius: i64,
+    },
+    /// In a box whose half axes are these lengths along x, y and z, in this order.
+    Aligned {
+        marks: Marks,
+        size: u32,
+        centre: Point,
+        lengths: Point,
+    },
+    /// In another box.
+    Oriented {
+        marks: Marks,
+        size: u32,
+        volume: Box<Volume>,
     },
     Rare {
         marks: Marks,
@@ -55,24 +76,88 @@ pub enum Rest {
     },
 }
 
+/// The lengths of three half axes along x, y and z, where each is along its own.
+#[inline(always)]
+fn aligned_lengths(axes: &[Point; 3]) -> Option<Point>
+    ensures { IfSome result (λ lengths. axes.now ≡ aligned_axes lengths) }
+{
+    let [a, b, c] = *axes;
+    if a.y != 0 || a.z != 0 {
+        return None;
+    }
+    if b.x != 0 || b.z != 0 {
+        return None;
+    }
+    if c.x != 0 || c.y != 0 {
+        return None;
+    }
+    Some(Point {
+        x: a.x,
+        y: b.y,
+        z: c.z,
+    })
+}
+
+/// The half axes of these lengths along x, y and z.
+fn half_axes(lengths: Point) -> [Point; 3]
+    ensures { result ≡ aligned_axes lengths }
+{
+    let Point { x, y, z } = lengths;
+    [
+        Point { x, y: 0, z: 0 },
+        Point { x: 0, y, z: 0 },
+        Point { x: 0, y: 0, z },
+    ]
+}
+
 impl Rest {
+    /// The rest of a tile without children in a box, which says nothing rare. It takes memory where
+    /// the box isn't along the axes of the coordinates.
+    #[inline(always)]
+    fn common_box(
+        alloc: Global,
+        marks: Marks,
+        centre: Point,
+        axes: [Point; 3],
+    ) -> Result<Rest, AllocError>
+        ensures { IfOk result (rests.IsCommon marks (oriented centre axes)) }
+    {
+        match aligned_lengths(&axes) {
+            Some(lengths) => Ok(Rest::Aligned {
+                marks,
+                size: 1,
+                centre,
+                lengths,
+            }),
+            None => Ok(Rest::Oriented {
+                marks,
+                size: 1,
+                volume: Box::new(alloc, Volume::Oriented { centre, axes })?,
+            }),
+        }
+    }
+
     /// The rest of a tile without children that says nothing rare.
     #[inline(always)]
-    pub fn common(marks: Marks) -> Rest
-        ensures marks { rests.marks result ≡ marks }
-        ensures size { rests.size result ≡ 1 }
-        ensures request { rests.request result ≡ None }
-        ensures transform { rests.transform result ≡ None }
-        ensures more { rests.more result ≡ [] }
-        ensures implicit { rests.implicit result ≡ None }
+    pub fn common(alloc: Global, marks: Marks, volume: Volume) -> Result<Rest, AllocError>
+        ensures { IfOk result (rests.IsCommon marks volume) }
     {
-        Rest::Common { marks, size: 1 }
+        match volume {
+            Volume::Ball { centre, radius } => Ok(Rest::Ball {
+                marks,
+                size: 1,
+                centre,
+                radius,
+            }),
+            Volume::Oriented { centre, axes } => Rest::common_box(alloc, marks, centre, axes),
+        }
     }
 
     /// The rest of a tile without children.
     pub fn new(
         alloc: Global,
         marks: Marks,
+        volume: Volume,
         request: Option<Volume>,
         transform: Option<Affine>,
         more: Vec<Address>,
@@ -80,17 +165,19 @@ impl Rest {
     ) -> Result<Rest, AllocError>
         ensures marks { IfOk result (λ r. rests.marks r ≡ marks) }
         ensures size { IfOk result (λ r. rests.size r ≡ 1) }
+        ensures volume { IfOk result (λ r. rests.volume r ≡ volume) }
         ensures request { IfOk result (λ r. rests.request r ≡ request) }
         ensures transform { IfOk result (λ r. rests.transform r ≡ transform) }
         ensures more { IfOk result (λ r. rests.more r ≡ more.items) }
         ensures implicit { IfOk result (λ r. rests.implicit r ≡ part_seen implicit) }
     {
         if request.is_none() && transform.is_none() && more.is_empty() && implicit.is_none() {
-            return Ok(Rest::common(marks));
+            return Rest::common(alloc, marks, volume);
         }
         let rare = Box::new(
             alloc,
             Rare {
+                volume,
                 request,
                 transform,
                 more,
@@ -109,7 +196,9 @@ impl Rest {
         ensures { result ≡ rests.marks self.now }
     {
         match self {
-            Rest::Common { marks, .. } => *marks,
+            Rest::Ball { marks, .. } => *marks,
+            Rest::Aligned { marks, .. } => *marks,
+            Rest::Oriented { marks, .. } => *marks,
             Rest::Rare { marks, .. } => *marks,
         }
     }
@@ -119,7 +208,9 @@ impl Rest {
         ensures { result ≡ rests.size self.now }
     {
         match self {
-            Rest::Common { size, .. } => *size,
+            Rest::Ball { size, .. } => *size,
+            Rest::Aligned { size, .. } => *size,
+            Rest::Oriented { size, .. } => *size,
             Rest::Rare { size, .. } => *size,
         }
     }
@@ -129,8 +220,32 @@ impl Rest {
         ensures { self.new ≡ rests.with_size self.old count }
     {
         match self {
-            Rest::Common { size, .. } => *size = count,
+            Rest::Ball { size, .. } => *size = count,
+            Rest::Aligned { size, .. } => *size = count,
+            Rest::Oriented { size, .. } => *size = count,
             Rest::Rare { size, .. } => *size = count,
+        }
+    }
+
+    /// The bounding volume, in millimetres.
+    pub fn volume(&self) -> Volume
+        ensures { result ≡ rests.volume self.now }
+    {
+        match self {
+            Rest::Ball { centre, radius, .. } => Volume::Ball {
+                centre: *centre,
+                radius: *radius,
+            },
+            Rest::Aligned {
+                centre,
+                lengths,
+                ..
+            } => Volume::Oriented {
+                centre: *centre,
+                axes: half_axes(*lengths),
+            },
+            Rest::Oriented { volume, .. } => **volume,
+            Rest::Rare { rare, .. } => rare.volume,
         }
     }
 
@@ -139,8 +254,8 @@ impl Rest {
         ensures { option_map (λ v. v.now) result ≡ rests.request self.now }
     {
         match self {
-            Rest::Common { .. } => None,
             Rest::Rare { rare, .. } => rare.request.as_ref(),
+            _ => None,
         }
     }
 
@@ -149,8 +264,8 @@ impl Rest {
         ensures { option_map (λ m. m.now) result ≡ rests.transform self.now }
     {
         match self {
-            Rest::Common { .. } => None,
             Rest::Rare { rare, .. } => rare.transform.as_ref(),
+            _ => None,
         }
     }
 
@@ -159,8 +274,8 @@ impl Rest {
         ensures { result.now ≡ rests.more self.now }
     {
         match self {
-            Rest::Common { .. } => &[],
             Rest::Rare { rare, .. } => rare.more.as_slice(),
+            _ => &[],
         }
     }
 
@@ -169,8 +284,8 @@ impl Rest {
         ensures { option_map (λ p. p.now) result ≡ rests.implicit self.now }
     {
         match self {
-            Rest::Common { .. } => None,
             Rest::Rare { rare, .. } => rare.implicit.as_deref(),
+            _ => None,
         }
     }
 }

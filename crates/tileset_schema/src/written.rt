@@ -19,12 +19,11 @@ use tile_uri::{ADDRESS_LIMIT, is_external};
 use volumes::Volume;
 
 /// A tile as its document writes it (OGC 22-025r4, "Tiles"), in a list of all tiles in preorder.
-/// What it says is its own, not yet under that of the tiles above. It takes 160 bytes, and memory
-/// of its own only for an address of more than 30 bytes, a request volume, a transform, a second
-/// content, or an implicit part.
+/// What it says is its own, not yet under that of the tiles above. It takes 96 bytes, and memory
+/// of its own only for an address of more than 30 bytes, a box that isn't along the axes of the
+/// coordinates, a request volume, a transform, a second content, or an implicit part.
 #[derive(Drop)]
 pub struct Written {
-    volume: Volume,
     error: u64,
     /// The address of the first content, where there is one.
     first: Text,
@@ -45,17 +44,17 @@ impl Model for Written {
 
 impl Written {
     #[inline(always)]
-    pub(crate) fn new(volume: Volume, error: u64, first: FirstContent, rest: Rest) -> Written
-        requires volume { IsInRange volume }
+    pub(crate) fn new(error: u64, first: FirstContent, rest: Rest) -> Written
+        requires volume { IsInRange (rests.volume rest) }
         requires request { IfSome (rests.request rest) IsInRange }
         requires error { error ≤ error_limit }
         requires first { IsFirst first.kind first.text }
         requires kind { (rests.marks rest).content ≡ first.kind }
-        requires boxed { IfSome (rests.implicit rest) (λ part. IsBoxInRange volume) }
-        ensures { result ≡ row_by volume error first.text rest }
+        requires boxed { IfSome (rests.implicit rest)
+            (λ part. IsBoxInRange (rests.volume rest)) }
+        ensures { result ≡ row_by error first.text rest }
     {
         Written {
-            volume,
             error,
             first: first.text,
             rest,
@@ -63,11 +62,11 @@ impl Written {
     }
 
     /// The bounding volume, in millimetres.
-    pub fn volume(&self) -> &Volume
-        ensures value { result.now ≡ self.now.parts.volume }
+    pub fn volume(&self) -> Volume
+        ensures value { result ≡ self.now.parts.volume }
         ensures within { IsInRange self.now.parts.volume }
     {
-        &self.volume
+        self.rest.volume()
     }
 
     /// The viewer request volume, in millimetres.

@@ -60,7 +60,7 @@ fn what_the_root_says(rt: HostRuntime) -> Result<(), Fail> {
         y: 2_000,
         z: 3_001,
     };
-    assert!(rt; matches!(root.volume(), Volume::Oriented { centre: c, .. } if *c == centre));
+    assert!(rt; matches!(root.volume(), Volume::Oriented { centre: c, .. } if c == centre));
     let centre = Point {
         x: 0,
         y: 0,
@@ -218,27 +218,73 @@ static BALLS: [&str; 2] = [
     r#"{"cylinder":[1],"sphere":[0.001,-2,68719476.7364,0]}"#,
 ];
 
-/// Reads each as a root's volumes, and compares them.
+const ALIGNED: Volume = Volume::Oriented {
+    centre: Point { x: 0, y: 0, z: 1 },
+    axes: [
+        Point { x: 1, y: 0, z: 0 },
+        Point {
+            x: 0,
+            y: -2_000,
+            z: 0,
+        },
+        Point { x: 0, y: 0, z: 3 },
+    ],
+};
+
+const LEANING: Volume = Volume::Oriented {
+    centre: Point { x: 0, y: 0, z: 1 },
+    axes: [
+        Point { x: 1, y: 0, z: 0 },
+        Point {
+            x: 0,
+            y: -2_000,
+            z: 0,
+        },
+        Point { x: 0, y: 4, z: 3 },
+    ],
+};
+
+/// Two boxes of which one is along the axes of the coordinates, as they are written.
+static ALONG: [&str; 1] = [r#"{"box":[0,0,0.001,0.001,0,0,0,-2,0,0,0,0.003]}"#];
+
+static NEARLY_ALONG: [&str; 1] = [r#"{"box":[0,0,0.001,0.001,0,0,0,-2,0,0,0.004,0.003]}"#];
+
+/// Reads a root of this bounding volume with further members, and compares its volumes.
+fn check_volume<R: AllocGlobal + Abort>(
+    rt: &R,
+    written: &str,
+    further: &[&str; 2],
+    volume: &Volume,
+    request: Option<&Volume>,
+) -> Result<(), Fail> {
+    let [front, back] = *further;
+    let pieces = [
+        TOP,
+        r#"{"boundingVolume":"#,
+        written,
+        r#","geometricError":0"#,
+        front,
+        back,
+        "}}",
+    ];
+    let bytes = joined(rt.alloc(), &pieces)?;
+    let document = outcome(rt.alloc(), &bytes)?;
+    let root = document.tiles().first().ok_or("no root")?;
+    assert_eq!(rt; root.volume(), *volume, "of {written}");
+    assert_eq!(rt; root.request(), request, "of {written}");
+    Ok(())
+}
+
+/// Reads each as a root's only volume, and as both of its volumes, and compares them.
 fn check_volumes<R: AllocGlobal + Abort>(
     rt: &R,
     rows: &[&str],
     volume: &Volume,
 ) -> Result<(), Fail> {
-    let between = r#","geometricError":0,"viewerRequestVolume":"#;
     for written in rows {
-        let pieces = [
-            TOP,
-            r#"{"boundingVolume":"#,
-            written,
-            between,
-            written,
-            "}}",
-        ];
-        let bytes = joined(rt.alloc(), &pieces)?;
-        let document = outcome(rt.alloc(), &bytes)?;
-        let root = document.tiles().first().ok_or("no root")?;
-        assert_eq!(rt; root.volume(), volume, "of {written}");
-        assert_eq!(rt; root.request(), Some(volume), "of {written}");
+        check_volume(rt, written, &["", ""], volume, None)?;
+        let both = [r#","viewerRequestVolume":"#, *written];
+        check_volume(rt, written, &both, volume, Some(volume))?;
     }
     Ok(())
 }
@@ -246,6 +292,12 @@ fn check_volumes<R: AllocGlobal + Abort>(
 #[test]
 fn boxes_of_roots(rt: HostRuntime) -> Result<(), Fail> {
     check_volumes(&rt, &BOXES, &BOX)
+}
+
+#[test]
+fn boxes_along_the_axes(rt: HostRuntime) -> Result<(), Fail> {
+    check_volumes(&rt, &ALONG, &ALIGNED)?;
+    check_volumes(&rt, &NEARLY_ALONG, &LEANING)
 }
 
 #[test]

@@ -116,5 +116,5 @@ fn the_deepest_tree(rt: HostRuntime) -> Result<(), Fail> {
 
 #[test]
 fn the_size_of_a_tile(rt: HostRuntime) {
-    assert!(rt; size_of::<Written>() <= 160);
+    assert!(rt; size_of::<Written>() <= 96);
 }

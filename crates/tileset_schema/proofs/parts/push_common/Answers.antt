@@ -30,11 +30,12 @@ returns c =
       rw (
         c.in_ok-push.ensures.items,
         c.new.ensures,
-        c.common-rest.ensures.marks,
-        c.common-rest.ensures.size,
-        c.common-rest.ensures.request,
-        c.common-rest.ensures.transform,
-        c.common-rest.ensures.more,
-        c.common-rest.ensures.implicit,
+        c.in_ok-rest.ensures.marks,
+        c.in_ok-rest.ensures.size,
+        c.in_ok-rest.ensures.volume,
+        c.in_ok-rest.ensures.request,
+        c.in_ok-rest.ensures.transform,
+        c.in_ok-rest.ensures.more,
+        c.in_ok-rest.ensures.implicit,
       ) refl,
     )
