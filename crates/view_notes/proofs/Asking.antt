@@ -1,6 +1,6 @@
 -- What a view wants, by its notes.
 use Rattle.std.proofs.Common.{ℕ, zero, suc, ◌≡◌, ◌+◌, ◌<◌, ◌≤◌, Bool, true, false, not, ◌&&◌, ◌||◌, Option, Some, None, List, [], ◌∷◌, ◌++◌, length, map, take, refl, sym, ◌∙◌, ap, subst, arith, length-append}
-use Rattle.std.specs.Prelude.{◌==◌, if◌then◌else◌, fold, is_some, nat_le, nat_lt}
+use Rattle.std.specs.Prelude.{if◌then◌else◌, fold, is_some, nat_le, nat_lt}
 use Rattle.std.specs.List.{filter, flat_map, list_all, slice_get}
 use Rattle.std.specs.Option.{option_map}
 use Rattle.std.proofs.lemmas.Bool.{eq-eqb, ltb-false}
@@ -30,7 +30,7 @@ use Rattle.view_notes.specs.Notes.{is_kept, note_of}
 use Rattle.view_notes.specs.Views.{noted, wishes}
 use Rattle.view_notes.proofs.Counting.{all_count, filter_few}
 use Rattle.view_notes.proofs.Keeping.{kept_is}
-use Rattle.view_notes.proofs.TreeNotes.{map-map, trees_noted}
+use Rattle.view_notes.proofs.TreeNotes.{trees_noted}
 use Rattle.view_notes.proofs.Views.{wanted_once}
 
 -- ---- places in lists
@@ -379,7 +379,7 @@ one_of holdings root (m ∷ ns) (view ∷ views) (suc i) n h e =
     let rest = one_of holdings root ns views i n h.1 e in
     record { view = rest.view; here = rest.here; notes = rest.notes }
 
-as_many : (holdings : Holdings) (root : Option Tree) (ns : List Noted) (views : List ViewParts)
+pub as_many : (holdings : Holdings) (root : Option Tree) (ns : List Noted) (views : List ViewParts)
     → AreNotesOfEach ns views holdings root → length views ≡ length ns
 as_many holdings root [] [] h = refl
 as_many holdings root [] (view ∷ views) h = absurd h

@@ -49,7 +49,7 @@ keeps_none ns us i u e before h =
 
 -- ---- the nodes in order
 
-abbrev any_kept : List ℕ → ℕ → List Note → Bool
+abbrev pub any_kept : List ℕ → ℕ → List Note → Bool
 any_kept users at [] = false
 any_kept users at (n ∷ ns) = (is_among users at && is_kept n) || any_kept users (at + 1) ns
 
@@ -97,7 +97,7 @@ kept_one (suc k) at (n ∷ ns) =
     ∙ ap (λ i. any_kept (i ∷ []) (at + 1) ns) up ∙ kept_one k (at + 1) ns
 
 -- whether a user is kept, by the users and by the nodes
-kept_in_order : (us : List ℕ) (ns : List Note)
+pub kept_in_order : (us : List ℕ) (ns : List Note)
     → list_any (keeps_at ns) us ≡ any_kept us 0 ns
 kept_in_order [] ns = sym (none_kept 0 ns)
 kept_in_order (u ∷ us) ns =
@@ -130,7 +130,7 @@ kept_is view holdings n = by (is_pending n.tree) (wants view n.tree) (adds n.tre
 one_more : (n : ℕ) → not ((1 + n) == 0) ≡ true
 one_more n = ap not (ne_eqb (1 + n) 0 (λ z. absurd (omega (arith, z))))
 
-among_times : (us : List ℕ) (i : ℕ) → is_among us i ≡ not (times_in us i == 0)
+pub among_times : (us : List ℕ) (i : ℕ) → is_among us i ≡ not (times_in us i == 0)
 among_times [] i = refl
 among_times (u ∷ us) i = by (u == i) (among_times us i)
   where
@@ -141,7 +141,7 @@ among_times (u ∷ us) i = by (u == i) (among_times us i)
         let none : times_in us i ≡ 0 + times_in us i = omega arith in
         rest ∙ ap (λ n. not (n == 0)) none
 
-named_times : (a : List ℕ) (xs : List (List ℕ))
+pub named_times : (a : List ℕ) (xs : List (List ℕ))
     → list_any (bytes_eq a) xs ≡ not (times_of a xs == 0)
 named_times a [] = refl
 named_times a (x ∷ xs) = by (bytes_eq a x) (named_times a xs)
@@ -154,7 +154,7 @@ named_times a (x ∷ xs) = by (bytes_eq a x) (named_times a xs)
         rest ∙ ap (λ n. not (n == 0)) none
 
 -- a content that isn't absent is among the own contents where it is among the contents
-own_named : (a : List ℕ) (h : Holdings) (xs : List (List ℕ)) → h.absent a ≡ false
+pub own_named : (a : List ℕ) (h : Holdings) (xs : List (List ℕ)) → h.absent a ≡ false
     → list_any (bytes_eq a) (filter (λ y. not (h.absent y)) xs) ≡ list_any (bytes_eq a) xs
 own_named a h [] there = refl
 own_named a h (x ∷ xs) there = by (h.absent x) (bytes_eq a x) refl refl (own_named a h xs there)
@@ -172,7 +172,7 @@ own_named a h (x ∷ xs) there = by (h.absent x) (bytes_eq a x) refl refl (own_n
         ap (list_any (bytes_eq a)) (filter_yes (λ y. not (h.absent y)) x xs (ap not e))
         ∙ ap (λ b. bytes_eq a x || b) rest
 
-and_if : (k d : Bool) (xs : List (List ℕ)) (a : List ℕ) → d ≡ list_any (bytes_eq a) xs
+pub and_if : (k d : Bool) (xs : List (List ℕ)) (a : List ℕ) → d ≡ list_any (bytes_eq a) xs
     → (d && k) ≡ list_any (bytes_eq a) (if k then xs else [])
 and_if true true xs a e = e
 and_if true false xs a e = e
@@ -203,7 +203,7 @@ module _ (view : ViewParts) (holdings : Holdings) (a : List ℕ) (users : List �
       ∙ sym (list_any-append (bytes_eq a) (kept_contents view holdings n.tree)
       (flat_map (kept_contents view holdings) (map (λ n. n.tree) ns)))
 
-  kept_limit : (b : Bool) (ts : List Tree)
+  pub kept_limit : (b : Bool) (ts : List Tree)
       → flat_map (kept_contents view holdings) (if b then ts else [])
       ≡ (if b then flat_map (kept_contents view holdings) ts else [])
   kept_limit true ts = refl

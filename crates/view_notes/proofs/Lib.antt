@@ -21,3 +21,8 @@ pub mod Visited
 pub mod Asking
 pub mod Everywhere
 pub mod Owning
+pub mod KeptByNotes
+pub mod Alike
+pub mod EachFollows
+pub mod GoingEach
+pub mod EachView

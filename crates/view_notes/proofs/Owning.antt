@@ -1,5 +1,5 @@
 -- A node's own contents are counted.
-use Rattle.std.proofs.Common.{ℕ, ◌≡◌, ◌+◌, ◌++◌, Bool, true, false, not, cond, Some, List, [], ◌∷◌, length, take, ◌∙◌, ap, arith, length-append}
+use Rattle.std.proofs.Common.{ℕ, ◌≡◌, ◌+◌, ◌++◌, true, false, not, cond, Some, List, [], ◌∷◌, length, take, ◌∙◌, ap, arith, length-append}
 use Rattle.std.specs.List.{filter, slice_get}
 use Rattle.std.proofs.lemmas.List.Elements.{filter-append}
 use Rattle.cut_core.specs.Cut.{Holdings}

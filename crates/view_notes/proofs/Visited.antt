@@ -26,7 +26,7 @@ use Rattle.view_notes.specs.declared.note.Note.{Note}
 use Rattle.view_notes.specs.Agreement.{Agree, ArePlaced, IsBefore, SameFixed, fixed, is_at, unready_among}
 use Rattle.view_notes.specs.Follows.{AreNotesOf, nothing_noted}
 use Rattle.view_notes.specs.Notes.{note_of, root_notes}
-use Rattle.view_notes.specs.Visited.{AreVisitsOf, first_note, noted_visits, role_where, visited_names}
+use Rattle.view_notes.specs.Visited.{AreVisitsOf, first_note, noted_visits, role_where}
 use Rattle.view_notes.proofs.TreeNotes.{map-map, root_agrees, trees_root, unique}
 
 abbrev one : Bool → ℕ

@@ -1,5 +1,6 @@
 -- How contents come and go.
-use Rattle.std.specs.Prelude.{ℕ, ◌≡◌, Bool, true, false, ◌&&◌, ◌||◌, not, bytes_eq, List}
+use Rattle.std.specs.Prelude.{All, ℕ, ◌≡◌, Bool, true, false, ◌&&◌, ◌||◌, not, bytes_eq, List}
+use Rattle.std.specs.List.{AllPass, IsDistinct, list_any}
 use Rattle.cut_core.specs.Cut.{Holdings}
 use Rattle.cut_core.specs.Wants.{is_missing}
 
@@ -36,3 +37,19 @@ pub record Goes (address : List ℕ) (old new : Holdings) : Type 0 where
   pub was : old.resident address ≡ true
   pub there : old.absent address ≡ false
   pub evicts : Evicts (bytes_eq address) old new
+
+-- the content at this address is one of these
+abbrev pub is_one_of : List (List ℕ) → List ℕ → Bool
+is_one_of addresses address = list_any (bytes_eq address) addresses
+
+-- each of these contents was resident, and not absent, and has gone; none stands there twice
+pub record GoesEach (addresses : List (List ℕ)) (old new : Holdings) : Type 0 where
+  pub apart : IsDistinct bytes_eq addresses
+  pub were : AllPass old.resident addresses
+  pub there : All (λ address. old.absent address ≡ false) addresses
+  pub evicts : Evicts (is_one_of addresses) old new
+
+-- the same contents are resident, and the same are absent
+pub record SameHoldings (old new : Holdings) : Type 0 where
+  pub resident : (x : List ℕ) → new.resident x ≡ old.resident x
+  pub absent : (x : List ℕ) → new.absent x ≡ old.absent x

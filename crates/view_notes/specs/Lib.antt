@@ -12,3 +12,5 @@ pub mod Follows
 pub mod Visited
 pub mod Kept
 pub mod Asking
+pub mod Keeping
+pub mod AllViews

@@ -1,5 +1,5 @@
 -- What is noted of the nodes that a walk has visited.
-use Rattle.std.specs.Prelude.{ℕ, ◌≡◌, true, not, if◌then◌else◌, Bool, List, [], None, filter, length, map}
+use Rattle.std.specs.Prelude.{ℕ, true, not, if◌then◌else◌, Bool, List, [], None, filter, length, map}
 use Rattle.std.specs.List.{flat_map}
 use Rattle.error_test.specs.Views.{ViewParts}
 use Rattle.expanded_tree.specs.Standing.{Standing}

@@ -1,8 +1,8 @@
 //! What holds of every view as contents come and go. Each function does nothing: its contract is
 //! the law.
 
-ghost use Rattle.std.specs.Prelude.{◌≡◌, ℕ, Bool, List, Option, bytes_eq, false, map, true};
-ghost use Rattle.std.specs.List.{list_any};
+ghost use Rattle.std.specs.Prelude.{All, ◌≡◌, ℕ, Bool, List, Option, bytes_eq, false, map, true};
+ghost use Rattle.std.specs.List.{flat_map, list_any};
 ghost use Rattle.tile_types.specs.declared.key.Key.{Key};
 ghost use Rattle.tile_types.specs.declared.want.Want.{Want};
 ghost use Rattle.error_test.specs.Views.{ViewParts};
@@ -13,8 +13,12 @@ ghost use Rattle.cut_core.specs.Wants.{each_once, is_missing, wanted};
 ghost use Rattle.view_notes.specs.declared.change.Change.{Change};
 ghost use Rattle.view_notes.specs.declared.note.Note.{Note};
 ghost use Rattle.view_notes.specs.Agreement.{Agree, SameFixed};
-ghost use Rattle.view_notes.specs.Changes.{BecomesAbsent, BecomesResident, Evicts, Grows, Settles};
-ghost use Rattle.view_notes.specs.Follows.{AreNotesOf, nothing_noted};
+ghost use Rattle.view_notes.specs.AllViews.{EachKeepsNone, EachNoneWaits, each_leaves_none};
+ghost use Rattle.view_notes.specs.Asking.{AreNotesOfEach};
+ghost use Rattle.view_notes.specs.Changes.{BecomesAbsent, BecomesResident, Evicts, GoesEach};
+ghost use Rattle.view_notes.specs.Changes.{Grows, SameHoldings, Settles};
+ghost use Rattle.view_notes.specs.Follows.{AreNotesOf, Noted, nothing_noted};
+ghost use Rattle.view_notes.specs.Keeping.{any_keeps};
 ghost use Rattle.view_notes.specs.Leaving.{Includes, KeepsNone, NoneWaits, lacks, leaves_none};
 ghost use Rattle.view_notes.specs.Notes.{root_notes};
 ghost use Rattle.view_notes.specs.Users.{AreLacking, AreUsers, FollowsChange, Happens};
@@ -152,4 +156,61 @@ pub fn notes_tell_what_leaves()
 pub fn too_many_are_not_noted()
     ensures { (view : ViewParts) (holdings : Holdings) (root : Option Tree)
         → VisitsTooMany view root → AreNotesOf nothing_noted view holdings root }
+{}
+
+/// The notes of several views tell whether one of them keeps a content that isn't absent.
+pub fn notes_tell_what_any_keeps()
+    ensures { (address : List ℕ) (ns : List Noted) (views : List ViewParts) (holdings : Holdings)
+        (root : Option Tree) → AreNotesOfEach ns views holdings root
+        → holdings.absent address ≡ false
+        → any_keeps ns address
+        ≡ list_any (bytes_eq address) (flat_map (λ view. kept view holdings root) views) }
+{}
+
+/// Notes, and what is wanted, depend on which contents are resident and which are absent, and on
+/// nothing else of the holdings.
+pub fn same_holdings_have_same_notes()
+    ensures notes { (n : Noted) (view : ViewParts) (old new : Holdings) (root : Option Tree)
+        → AreNotesOf n view old root → SameHoldings old new → AreNotesOf n view new root }
+    ensures each { (ns : List Noted) (views : List ViewParts) (old new : Holdings)
+        (root : Option Tree) → AreNotesOfEach ns views old root → SameHoldings old new
+        → AreNotesOfEach ns views new root }
+    ensures wanted { (views : List ViewParts) (old new : Holdings) (root : Option Tree)
+        → SameHoldings old new → wanted_by views new root ≡ wanted_by views old root }
+{}
+
+/// Where no view's tile that isn't kept any more has a content that is still missing, what the
+/// views want loses a content that has settled, and nothing else. No visited node may wait for its
+/// key: a pending node of an expanded tree waits for a document's.
+pub fn wanted_loses_it_where_none_leaves()
+    ensures { (address : List ℕ) (awaited : List ℕ → Bool) (views : List ViewParts)
+        (old new : Holdings) (root : Option Tree) → Settles address old new
+        → Includes awaited (is_missing new)
+        → each_leaves_none awaited views old new root ≡ true
+        → EachNoneWaits (content_key address) views root
+        → wanted_by views new root
+        ≡ other_wants (content_key address) (wanted_by views old root) }
+{}
+
+/// Where no view's tile that isn't kept any more has a content that is still missing and may be
+/// taken, of what the views want the same may be taken.
+pub fn takeable_stays_where_none_leaves()
+    ensures { (address : List ℕ) (may : Key → Bool) (awaited : List ℕ → Bool)
+        (views : List ViewParts) (old new : Holdings) (root : Option Tree)
+        → Settles address old new → may (content_key address) ≡ false → RespectsKeys may
+        → Includes awaited (lacks may new) → each_leaves_none awaited views old new root ≡ true
+        → takeable may (wanted_by views new root) ≡ takeable may (wanted_by views old root) }
+{}
+
+/// Where nothing goes that one of the views keeps, they want the same.
+pub fn unkept_evictions_change_nothing()
+    ensures views { (out : List ℕ → Bool) (views : List ViewParts) (old new : Holdings)
+        (root : Option Tree) → Evicts out old new → EachKeepsNone out views old root
+        → wanted_by views new root ≡ wanted_by views old root }
+
+    // By the notes.
+    ensures notes { (addresses : List (List ℕ)) (ns : List Noted) (views : List ViewParts)
+        (old new : Holdings) (root : Option Tree) → AreNotesOfEach ns views old root
+        → GoesEach addresses old new → All (λ address. any_keeps ns address ≡ false) addresses
+        → wanted_by views new root ≡ wanted_by views old root }
 {}

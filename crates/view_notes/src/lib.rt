@@ -1,6 +1,7 @@
 //! What a view keeps and wants, kept exact as contents come and go, without a new walk.
 #![tactic(auto)]
 
+mod all_views;
 mod awaited;
 mod change;
 mod content_index;
@@ -22,6 +23,7 @@ mod span;
 mod tests;
 mod view_notes;
 
+pub use all_views::{all_become_absent, all_become_resident, all_go, all_go_each, any_keeps};
 pub use awaited::Awaited;
 pub use change::Change;
 pub use cut_core::WantMap;

@@ -1,6 +1,7 @@
 //! What no clause says. Expected values are worked out by hand from the definitions, for a root of
 //! content `a` whose error is so great that it wants its children.
 
+mod all_views;
 mod fan;
 mod shelf;
 

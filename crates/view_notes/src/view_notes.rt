@@ -8,6 +8,7 @@ ghost use Rattle.view_notes.specs.Asking.{AddsWantsOf, AddsWishes, CountsWaiting
 ghost use Rattle.view_notes.specs.Asking.{TellsWantedBy};
 ghost use Rattle.view_notes.specs.Changes.{BecomesAbsent, BecomesResident, Goes};
 ghost use Rattle.view_notes.specs.Follows.{Follow, TellsKept, TellsLeaving, nothing_noted};
+ghost use Rattle.view_notes.specs.Keeping.{keeps_content};
 ghost use Rattle.view_notes.specs.Names.{names_of};
 ghost use Rattle.view_notes.specs.Users.{Happens, adds_to};
 
@@ -128,7 +129,8 @@ impl ViewNotes {
 
     /// Whether the view keeps the content at this address. It takes no memory.
     pub fn keeps(&self, address: &Text) -> bool
-        ensures { TellsKept address.now self.now result }
+        ensures kept { TellsKept address.now self.now result }
+        ensures noted { result ≡ keeps_content self.now address.now }
     {
         keeps(&self.notes, self.index.users(address))
     }
@@ -194,7 +196,7 @@ impl ViewNotes {
     }
 
     /// Follows a content.
-    fn follow<A: Awaited>(&mut self, address: &Text, change: Change, awaited: &A) -> bool
+    pub(crate) fn follow<A: Awaited>(&mut self, address: &Text, change: Change, awaited: &A) -> bool
         ensures notes { Follow (Happens change address.now) self.old self.new }
         ensures leaving { adds_to change ≡ true → TellsLeaving (Happens change address.now)
             (A.awaited awaited.now) self.old result }

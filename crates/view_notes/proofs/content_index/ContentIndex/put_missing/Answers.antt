@@ -1,8 +1,7 @@
-use Rattle.std.proofs.Common.{◌≡◌, ◌∙◌, Some, ap, arith, filter, fold, map, sym, true, false}
+use Rattle.std.proofs.Common.{◌∙◌, Some, ap, arith, filter, fold, map, sym}
 use Rattle.std.specs.Option.{option_map}
 use Rattle.std.proofs.lemmas.List.{length-map, take_all}
 use Rattle.std.proofs.lemmas.Option.{slice_get-get_or, slice_get-map}
-use Rattle.cut_core.specs.declared.want_map.WantMap.{WantMap}
 use Rattle.cut_core.specs.Visits.{content_key}
 use Rattle.cut_core.specs.WantMap.{wants_in}
 use Rattle.cut_core.specs.Wants.{is_missing, want_with, with_want}

@@ -1,4 +1,4 @@
-use Rattle.std.proofs.Common.{◌≡◌, ◌∙◌, ap, arith, length}
+use Rattle.std.proofs.Common.{◌∙◌, ap, arith, length}
 use Rattle.cut_core.specs.WantMap.{wants_in}
 use Rattle.view_notes.specs.Follows.{Noted}
 use Rattle.view_notes.proofs.Asking.{asks_all, asks_next, asks_none}

@@ -1,10 +1,9 @@
-use Rattle.std.proofs.Common.{◌≡◌, ◌<◌, ◌∙◌, [], Some, None, ap, arith, length, refl, sym, true, false}
+use Rattle.std.proofs.Common.{◌≡◌, ◌<◌, ◌∙◌, [], Some, None, ap, arith, length, refl, sym}
 use Rattle.std.specs.Prelude.{slice_index_or}
 use Rattle.std.specs.List.{slice_get}
 use Rattle.std.proofs.lemmas.Option.{slice_get-get_or, slice_get_read}
 use Rattle.cut_core.specs.WantMap.{wants_in}
 use Rattle.cut_core.specs.Wants.{want_with, with_want}
-use Rattle.view_notes.specs.Asking.{lacks_some, waits}
 use Rattle.view_notes.specs.Follows.{Noted}
 use Rattle.view_notes.proofs.Asking.{adds_key, adds_missing, adds_none, counts_key, counts_none, no_key}
 use Rattle.view_notes.proofs.view_notes.ViewNotes.put_wants_of.Goals as goal
