@@ -3,3 +3,4 @@ pub mod Changes
 pub mod Keys
 pub mod References
 pub mod Trees
+mod Shown

@@ -41,6 +41,14 @@ score_of Dropped r = PASSED_OVER
 abbrev pub score : Order → Entry → ℕ
 score order e = score_of e.state (rank order e.want.facts)
 
+abbrev pub is_shown_in : State → Bool
+is_shown_in Shown = true
+is_shown_in Hidden = false
+is_shown_in Dropped = false
+
+abbrev pub is_shown : Entry → Bool
+is_shown e = is_shown_in e.state
+
 -- its rank is less than that of what is passed over
 abbrev pub IsWithin : Order → Entry → Type 0
 IsWithin order e = rank order e.want.facts < PASSED_OVER

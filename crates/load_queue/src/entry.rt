@@ -1,7 +1,7 @@
 //! A want of the queue, and what became of it.
 
 ghost use Rattle.std.specs.Prelude.{◌≡◌};
-ghost use Rattle.load_queue.specs.Entries.{IsWithin, state_after, score};
+ghost use Rattle.load_queue.specs.Entries.{IsWithin, is_shown, state_after, score};
 
 use crate::rank::Rank;
 use tile_types::Want;
@@ -55,6 +55,16 @@ impl Entry {
         match self.state {
             State::Shown => rank,
             State::Hidden | State::Dropped => PASSED_OVER,
+        }
+    }
+
+    /// Whether the want is shown.
+    pub fn is_shown(&self) -> bool
+        ensures { result ≡ is_shown self.now }
+    {
+        match self.state {
+            State::Shown => true,
+            State::Hidden | State::Dropped => false,
         }
     }
 }

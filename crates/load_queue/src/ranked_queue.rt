@@ -1,12 +1,12 @@
 //! The queue of what is wanted.
 
 ghost use Rattle.std.specs.Prelude.{◌≡◌, [], IfOk, OnOk, OnErr, filter, map, not, option_map, true};
-ghost use Rattle.std.specs.Prelude.{false};
+ghost use Rattle.std.specs.Prelude.{false, length, count_by, IsOk};
 ghost use Rattle.std.specs.List.{AllByRecursion, IsDistinct};
 ghost use Rattle.tile_types.specs.Keys.{same_key};
 ghost use Rattle.load_queue.specs.Best.{best};
 ghost use Rattle.load_queue.specs.Queues.{fresh_want, other_wants, shown_wants, with_hidden};
-ghost use Rattle.load_queue.specs.Entries.{IsWithin, changed_queue, score};
+ghost use Rattle.load_queue.specs.Entries.{IsWithin, changed_queue, is_shown, score};
 
 use crate::entry::{Change, Entry, PASSED_OVER};
 use crate::keyed_wants::KeyedWants;
@@ -62,13 +62,19 @@ impl<R: Rank> RankedQueue<R> {
     }
 
     /// Sets the wants in place of those there were, none of them hidden. No key may stand twice,
-    /// which `are_keys_distinct` tells. Want of memory changes nothing.
+    /// which `are_keys_distinct` tells. Want of memory changes nothing. An empty list takes none.
     pub fn set_wants(&mut self, alloc: Global, wants: WantList) -> Result<(), AllocError>
         requires { IsDistinct same_key (map (λ want. want.key) wants) }
         ensures order { self.new.order ≡ self.old.order }
         ensures ok { OnOk result (self.new.wants ≡ map fresh_want wants) }
         ensures err { OnErr result (self.new ≡ self.old) }
+        ensures none { wants ≡ [] → IsOk result }
     {
+        if wants.is_empty() {
+            self.ranks = LeastRanks::new(alloc);
+            self.wants = KeyedWants::new(alloc);
+            return Ok(());
+        }
         let wants = KeyedWants::from_wants(alloc, wants)?;
         let ranks = scores(alloc, &self.rank, wants.as_slice())?;
         self.ranks = LeastRanks::from_ranks(alloc, &ranks)?;
@@ -87,6 +93,13 @@ impl<R: Rank> RankedQueue<R> {
             return None;
         }
         Some(&self.wants.as_slice()[first.place].want)
+    }
+
+    /// How many wants aren't hidden. It takes no memory, and time by how many there are.
+    pub fn shown_count(&self) -> usize
+        ensures { result ≡ length (shown_wants self.now.wants) }
+    {
+        count_shown(self.wants.as_slice())
     }
 
     /// Takes the want of a key out, where there is one. It takes no memory, and time by the
@@ -126,6 +139,13 @@ impl<R: Rank> RankedQueue<R> {
         let rank = self.wants.as_slice()[place].score(&self.rank);
         self.ranks.set(place, rank);
     }
+}
+
+/// How many of these are shown.
+fn count_shown(entries: &[Entry]) -> usize
+    ensures { result ≡ count_by is_shown entries.now }
+{
+    entries.iter().filter(|entry| entry.is_shown()).count()
 }
 
 /// The score of each want at its place.

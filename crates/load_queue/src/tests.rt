@@ -134,10 +134,17 @@ fn take_step(
     Ok(())
 }
 
-/// The addresses of the best wants, each dropped before the next; at most eight.
-fn bests(alloc: Global, queue: &mut RankedQueue<OrderRank>) -> Result<String, AllocError> {
+/// The addresses of the best wants, each dropped before the next; at most eight. So many of them
+/// are shown.
+fn bests(
+    rt: &impl Abort,
+    alloc: Global,
+    queue: &mut RankedQueue<OrderRank>,
+    shown: usize,
+) -> Result<String, AllocError> {
     let mut addresses = String::new(alloc);
-    for _ in 0..8 {
+    for dropped in 0..8 {
+        assert_eq!(rt; queue.shown_count(), shown.saturating_sub(dropped));
         let Some(best) = queue.best() else {
             break;
         };
@@ -157,8 +164,9 @@ fn courses(rt: HostRuntime) -> Result<(), Fail> {
         for step in *steps {
             take_step(alloc, &mut queue, *step)?;
         }
-        assert_eq!(rt; bests(alloc, &mut queue)?.as_str(), *addresses);
-        assert!(rt; queue.best().is_none());
+        let found = bests(&rt, alloc, &mut queue, addresses.len())?;
+        assert_eq!(rt; found.as_str(), *addresses);
+        assert!(rt; queue.best().is_none() && queue.shown_count() == 0);
     }
     Ok(())
 }
@@ -169,5 +177,21 @@ fn keys_that_stand_twice(rt: HostRuntime) -> Result<(), Fail> {
     let twice: [Row; 3] = [("a", 1, 1), ("b", 1, 1), ("a", 2, 2)];
     assert!(rt; !are_keys_distinct(alloc, &wants_of(&rt, alloc, &twice)?)?);
     assert!(rt; are_keys_distinct(alloc, &wants_of(&rt, alloc, THREE)?)?);
+    Ok(())
+}
+
+/// No wants are a list like any other, and end what was set before.
+#[test]
+fn no_wants(rt: HostRuntime) -> Result<(), Fail> {
+    let alloc = rt.alloc();
+    let mut queue = queue_of(&rt, alloc, Order::Near, THREE)?;
+    queue.hide(&content(alloc, "a")?);
+    assert_eq!(rt; queue.shown_count(), 2);
+    let none = WantList::new(alloc);
+    assert!(rt; are_keys_distinct(alloc, &none)?);
+    queue.set_wants(alloc, none)?;
+    assert!(rt; queue.best().is_none() && queue.shown_count() == 0);
+    queue.show(&content(alloc, "a")?);
+    assert!(rt; queue.best().is_none());
     Ok(())
 }

@@ -1,5 +1,6 @@
-use Rattle.std.proofs.Common.{map, true≢false, sym, subst, ap, refl}
+use Rattle.std.proofs.Common.{List, map, true≢false, sym, subst, ap, refl}
 use Rattle.std.specs.List.{IsDistinct}
+use Rattle.tile_types.specs.declared.want.Want.{Want}
 use Rattle.tile_types.specs.Keys.{same_key}
 use Rattle.load_queue.proofs.Keys.{next_key, next_within}
 use Rattle.load_queue.proofs.References.{keys_at, referred_on, referred_twice}
@@ -11,8 +12,16 @@ loop-want-init c =
     let none = ap keys_at c.in_ok-seen.ensures.empty in
     record { keys = none; apart = subst (IsDistinct same_key) (sym none) tt }
 
-pub returns-then-not-branch : goal.returns-then-not-branch
-returns-then-not-branch c =
+pub returns-then-is_empty-clause-value : goal.returns-then-is_empty-clause-value
+unfolding IsDistinct
+returns-then-is_empty-clause-value c =
+    let none = c.is_empty.ensures.0 c.if-is_empty.true in (
+      λ same. subst (λ (ws : List Want). IsDistinct same_key (map (λ w. w.key) ws)) (sym none) tt,
+      λ apart. refl,
+    )
+
+pub returns-then-not-branch-clause-value : goal.returns-then-not-branch-clause-value
+returns-then-not-branch-clause-value c =
     let ws = c.args.wants.now in
     let items = c.as_slice-want-items.result.now in
     let i = c.loop-want.want-index in
