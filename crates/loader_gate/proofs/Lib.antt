@@ -1,1 +1,2 @@
 pub mod LatestCounts
+pub mod LoadedOutcomes

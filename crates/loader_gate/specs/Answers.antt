@@ -1,5 +1,5 @@
 -- How often a desk gave which answer.
-use Rattle.std.specs.Prelude.{◌≡◌, ℕ, ◌<◌, ◌≤◌, Option, Some, None}
+use Rattle.std.specs.Prelude.{ℕ, ◌<◌, ◌≤◌, Option, Some, None}
 use Rattle.tile_types.specs.declared.job.Job.{Job}
 use Rattle.source_port.specs.Counts.{HasRisen}
 use Rattle.loader_gate.specs.declared.outcome.Loaded.{Loaded}

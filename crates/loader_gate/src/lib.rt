@@ -14,4 +14,6 @@ pub use outcome::{Loaded, Outcome, TakenJob};
 #[cfg(test)]
 mod test_desk;
 #[cfg(test)]
+mod test_source;
+#[cfg(test)]
 mod tests;

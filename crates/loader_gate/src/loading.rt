@@ -1,8 +1,10 @@
 //! The load of one job.
 
-ghost use Rattle.std.specs.Prelude.{◌≡◌, ◌≢◌, ◌++◌, ◌<◌, ◌≤◌, ◌⊎◌, [], ◌∷◌, ℕ, List, None, Some};
+ghost use Rattle.std.specs.Prelude.{◌≡◌, ◌≢◌, ◌++◌, ◌≤◌, ℕ, List, None, Some};
 ghost use Rattle.loader_gate.specs.Answers.{CountsLoad, NeverFall};
-ghost use Rattle.loader_gate.specs.Outcomes.{IsAbove, IsTrueOf, IsWithin, TellsFault, counts_of, latest_count};
+ghost use Rattle.loader_gate.specs.Outcomes.{IsAbove, IsLoaded, IsTrueOf, IsWithin, KeepsBytes};
+ghost use Rattle.loader_gate.specs.Outcomes.{counts_of, latest_count, outcome_of_failure};
+ghost use Rattle.loader_gate.specs.Outcomes.{outcome_without_bytes};
 ghost use Rattle.loader_gate.specs.Loads.{AddsCount, FetchesOnce};
 
 use crate::desk::JobDesk;
@@ -31,7 +33,7 @@ pub fn load_one<D: JobDesk, S: Source, G: Gate>(
     ensures counts { CountsLoad (D.answers desk.old) (D.answers desk.new) result }
     ensures never_fall { NeverFall (D.answers desk.old) (D.answers desk.new) }
 
-    // A count is delivered only where the source's rose, and is the new one.
+    // A count is delivered exactly where the source's rose, and is the new one.
     ensures fault_counts { AddsCount (S.faults source.old) (S.faults source.new)
         (D.fault_counts desk.old) (D.fault_counts desk.new) }
     ensures counted { latest_count (D.fault_counts desk.new) ≤ S.faults source.new }
@@ -59,11 +61,9 @@ pub fn load_one<D: JobDesk, S: Source, G: Gate>(
 
 /// Fetches the bytes of a job.
 fn load<S: Source, G: Gate>(alloc: Global, job: &Job, source: &mut S, gate: &G) -> Outcome
-    ensures within { IsWithin job.now.limit result }
-    ensures is_true { IsTrueOf (S.library source.old) job.now result }
-    ensures faults { TellsFault (S.faults source.old) (S.faults source.new) result }
-    ensures never_fall { S.faults source.old ≤ S.faults source.new }
-    ensures fetches { FetchesOnce (S.fetches source.old) (S.fetches source.new) }
+    ensures loaded { IsLoaded (S.library source.old) job.now
+        (record { calls = S.fetches source.old; faults = S.faults source.old })
+        (record { calls = S.fetches source.new; faults = S.faults source.new }) result }
     ensures library { S.library source.new ≡ S.library source.old }
 {
     let before = source.faults();
@@ -73,16 +73,14 @@ fn load<S: Source, G: Gate>(alloc: Global, job: &Job, source: &mut S, gate: &G) 
     gate.after_fetch(job.pass);
     match fetched {
         Ok(()) => got(bytes),
-        Err(FetchError::Missing) => Outcome::Missing,
-        Err(FetchError::TooLong) => Outcome::TooLong,
-        Err(FetchError::Failed) => failed(before, source.faults()),
-        Err(FetchError::OutOfMemory) => Outcome::Starved,
+        Err(error) => outcome_without_bytes(error, before, source.faults()),
     }
 }
 
-/// What bytes that were fetched are delivered as. To count their owners takes memory.
+/// What bytes that were fetched are delivered as. To count their owners takes memory, but where
+/// there are none.
 fn got(bytes: Vec<u8>) -> Outcome
-    ensures { (result ≡ Outcome.Got bytes.items) ⊎ (result ≡ Outcome.Starved) }
+    ensures { KeepsBytes bytes.items result }
 {
     match Bytes::from_vec(bytes) {
         Ok(bytes) => Outcome::Got(Content::new(bytes)),
@@ -90,10 +88,22 @@ fn got(bytes: Vec<u8>) -> Outcome
     }
 }
 
+/// What a fetch that gave no bytes is delivered as, with the counts of faults before it and behind
+/// it. It is starved where memory ran out, and where a failure raised no count.
+fn outcome_without_bytes(error: FetchError, before: u64, count: u64) -> Outcome
+    ensures { result ≡ outcome_without_bytes error before count }
+{
+    match error {
+        FetchError::Missing => Outcome::Missing,
+        FetchError::TooLong => Outcome::TooLong,
+        FetchError::Failed => failed(before, count),
+        FetchError::OutOfMemory => Outcome::Starved,
+    }
+}
+
 /// What a failure is delivered as, with the counts of faults before it and behind it.
 fn failed(before: u64, count: u64) -> Outcome
-    ensures risen { before < count → result ≡ Outcome.Failed count }
-    ensures stands { count ≤ before → result ≡ Outcome.Starved }
+    ensures { result ≡ outcome_of_failure before count }
 {
     if before < count {
         Outcome::Failed { count }

@@ -4,20 +4,25 @@ ghost use Rattle.std.specs.Prelude.{◌≡◌, ◌≤◌, IfOk, None, false, len
 ghost use Rattle.tile_types.specs.declared.text.TheConstants.{SHORT_TEXT};
 
 use crate::test_desk::TestDesk;
+use crate::test_source::RefusingSource;
 use crate::{Gate, Loaded, OpenGate, Outcome, load_one};
 use bytes::Bytes;
-use source_port::{FileList, MemorySource, NamedFile, Source, SteadySource};
+use source_port::{FetchError, FileList, MemorySource, NamedFile, Source, SteadySource};
 use std::alloc::{AllocError, Global};
 use std::cell::Cell;
 use std::test::Fail;
 use tile_types::{NumberList, Text};
 
-/// Three bytes at `a`.
+/// Three bytes at `a`, and none at `e`.
 fn files(alloc: Global) -> Result<FileList, AllocError> {
     let mut files = FileList::new(alloc);
     files.push(NamedFile {
         address: Text::new(alloc, "a")?,
         bytes: Bytes::copy_from_slice(alloc, b"abc")?,
+    })?;
+    files.push(NamedFile {
+        address: Text::new(alloc, "e")?,
+        bytes: Bytes::new(),
     })?;
     Ok(files)
 }
@@ -79,6 +84,45 @@ fn outcomes(rt: HostRuntime) -> Result<(), Fail> {
     assert!(rt; matches!(failed, Some(Outcome::Failed { count: 1 })));
     let again = outcome_of(alloc, &mut source, "a", 3, false)?;
     assert!(rt; matches!(again, Some(Outcome::Failed { count: 2 })));
+    Ok(())
+}
+
+/// What a job ends with whose fetch is refused by a cause, with so many faults before it.
+fn refused(alloc: Global, error: FetchError, faults: u64) -> Result<Option<Outcome>, AllocError> {
+    let mut source = RefusingSource {
+        error,
+        faults,
+        fetched: 0,
+    };
+    outcome_of(alloc, &mut source, "a", 3, false)
+}
+
+/// Each cause is told as itself, and a failure that has no count as want of memory.
+#[test]
+fn refused_fetches(rt: HostRuntime) -> Result<(), Fail> {
+    let alloc = rt.alloc();
+    let missing = refused(alloc, FetchError::Missing, 7)?;
+    assert!(rt; matches!(missing, Some(Outcome::Missing)));
+    let long = refused(alloc, FetchError::TooLong, 7)?;
+    assert!(rt; matches!(long, Some(Outcome::TooLong)));
+    let failed = refused(alloc, FetchError::Failed, 7)?;
+    assert!(rt; matches!(failed, Some(Outcome::Failed { count: 8 })));
+    let last = refused(alloc, FetchError::Failed, u64::MAX)?;
+    assert!(rt; matches!(last, Some(Outcome::Starved)));
+    let starved = refused(alloc, FetchError::OutOfMemory, 7)?;
+    assert!(rt; matches!(starved, Some(Outcome::Starved)));
+    Ok(())
+}
+
+/// A content without bytes comes as it is.
+#[test]
+fn no_bytes(rt: HostRuntime) -> Result<(), Fail> {
+    let alloc = rt.alloc();
+    let mut source = SteadySource::new(files(alloc)?);
+    let Some(Outcome::Got(content)) = outcome_of(alloc, &mut source, "e", 0, false)? else {
+        return Err("no content".into());
+    };
+    assert!(rt; content.bytes().is_empty());
     Ok(())
 }
 
