@@ -1,6 +1,6 @@
 //! The digests of many contents.
 
-ghost use Rattle.std.specs.Prelude.{◌≡◌, map, IfOk};
+ghost use Rattle.std.specs.Prelude.{◌≡◌, [], map, IfOk, IsOk};
 ghost use Rattle.sha2.specs.Sha256.{sha256};
 
 use bytes::Bytes;
@@ -14,13 +14,18 @@ use std::thread::Threads;
 pub type DigestList = List<[u8; 32]>;
 
 /// The SHA-256 digest (FIPS 180-4) of each, in order, from as many threads as there are processors.
+/// Where there are none it takes no memory.
 pub fn digests<R: Threads + Sync>(
     rt: &R,
     alloc: Global,
     list: &[Bytes],
 ) -> Result<DigestList, AllocError>
-    ensures { IfOk result (λ digests. digests ≡ map sha256 list.now) }
+    ensures value { IfOk result (λ digests. digests ≡ map sha256 list.now) }
+    ensures none { list.now ≡ [] → IsOk result }
 {
+    if list.is_empty() {
+        return Ok(DigestList::new(alloc));
+    }
     Ok(List::from_vec(digest_vec(rt, alloc, list)?))
 }
 
