@@ -1,0 +1,9 @@
+pub mod Engine
+pub mod Holding
+pub mod Mirrors
+pub mod Filling
+pub mod Journals
+pub mod Opening
+pub mod Taking
+pub mod Arriving
+pub mod Looking
