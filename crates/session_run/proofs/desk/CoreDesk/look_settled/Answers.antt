@@ -1,0 +1,14 @@
+use Rattle.std.proofs.Common.{◌∙◌, ap}
+use Rattle.session_run.proofs.Served.{look_again_serves, paused_desk}
+use Rattle.session_run.proofs.desk.CoreDesk.look_settled.Goals as goal
+
+pub invariant_of-self : goal.invariant_of-self
+invariant_of-self g c =
+    let is = c.self.view_is in
+    let paused = c.pause.ensures in
+    paused_desk _ _ _ _ _ _ _ (ap (λ d. d.begun) is ∙ paused.begun)
+    (ap (λ d. d.jobs) is ∙ paused.jobs) (ap (λ d. d.idle) is ∙ paused.idle)
+    (ap (λ d. d.ended) is ∙ paused.ended) (ap (λ d. d.stop) is ∙ paused.stop)
+    (look_again_serves _ c.self.inside.core c.look_settled.new.self c.self.invariant.served
+    c.look_settled.result 0 c.args.viewer c.look_settled.ensures.journal
+    c.look_settled.ensures.refused)

@@ -1,0 +1,4 @@
+pub mod Loading
+pub mod Obeying
+pub mod Desks
+pub mod Sessions
