@@ -42,7 +42,11 @@ pub(crate) fn look<S: Source, W: Sink>(
         return Look::Ended(Cause::Memory);
     };
     match ideal_or_want(alloc, &mut arena, &EverythingThere, view) {
-        Ok(Sight::Lines(lines)) => Look::Ended(print_ideal(alloc, &lines, source, out)),
+        Ok(Sight::Lines(lines)) => {
+            // No content is fetched while the documents and the nodes take memory.
+            drop(arena);
+            Look::Ended(print_ideal(alloc, &lines, source, out))
+        }
         Ok(Sight::Awaits(wants)) => match keys_of(alloc, &wants) {
             Ok(keys) => Look::Awaits {
                 keys,
