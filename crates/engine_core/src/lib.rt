@@ -24,6 +24,3 @@ mod views;
 
 pub use engine::Core;
 pub use error::{LookError, OpenError, RetryError, TakeError};
-
-#[cfg(test)]
-mod tests;
