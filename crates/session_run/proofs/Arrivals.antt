@@ -141,7 +141,7 @@ module _ (library : Option Library) (old : List Entry) (key : Key) (bytes : List
       → is_content key ≡ true → IsEnd library old key (content_entry s 0 key bytes)
   content_end there within content =
       let same : without_first (is_flight_of 0 (content_key key.address)) s.flying
-          ≡ without_first (is_flight_of 0 key) s.flying =
+      ≡ without_first (is_flight_of 0 key) s.flying =
       ap (λ k. without_first (is_flight_of 0 k) s.flying) (content_is key content) in
       elim (fits s (length bytes)) as (λ b. IsEnd library old key
       (if b then entry.ContentArrived 0 key.address (length bytes) (facts_of bytes).digest
@@ -239,13 +239,23 @@ end_of library old job Starved limit within there = record {
 pub ended_desk : (library : Option Library) (old new : Engine) (job : Job) (e : Entry)
     (begun jobs idle ended : ℕ) (stop : Option Stop)
     → IsDesk (record {
-      engine = old; library = library; begun = begun; jobs = jobs; idle = idle; ended = ended;
+      engine = old;
+      library = library;
+      begun = begun;
+      jobs = jobs;
+      idle = idle;
+      ended = ended;
       stop = stop;
     })
     → IsOut job (replay old.journal).flying → IsEnd library old.journal job.key e
     → new.journal ≡ old.journal ++ e ∷ [] → new.room ≡ old.room
     → IsDesk (record {
-      engine = new; library = library; begun = begun; jobs = jobs; idle = idle; ended = ended;
+      engine = new;
+      library = library;
+      begun = begun;
+      jobs = jobs;
+      idle = idle;
+      ended = ended;
       stop = stop;
     })
 ended_desk library old new job e begun jobs idle ended stop d o n is room =
@@ -285,7 +295,12 @@ pub delivered_desk : {A B : Type 0} (result : Result A B) (library : Option Libr
     (old new : Engine) (job : Job) (outcome : Outcome) (begun jobs idle ended : ℕ)
     (stop : Option Stop)
     → IsDesk (record {
-      engine = old; library = library; begun = begun; jobs = jobs; idle = idle; ended = ended;
+      engine = old;
+      library = library;
+      begun = begun;
+      jobs = jobs;
+      idle = idle;
+      ended = ended;
       stop = stop;
     })
     → IsOut job (replay old.journal).flying → IsWithin job.limit outcome
@@ -294,7 +309,12 @@ pub delivered_desk : {A B : Type 0} (result : Result A B) (library : Option Libr
     ++ entry_of (replay old.journal) 0 job.key outcome ∷ [])
     → OnErr result (new ≡ old) → new.room ≡ old.room
     → IsDesk (record {
-      engine = new; library = library; begun = begun; jobs = jobs; idle = idle; ended = ended;
+      engine = new;
+      library = library;
+      begun = begun;
+      jobs = jobs;
+      idle = idle;
+      ended = ended;
       stop = stop;
     })
 delivered_desk (Ok done) library old new job outcome begun jobs idle ended stop d o within there is
@@ -304,7 +324,12 @@ delivered_desk (Ok done) library old new job outcome begun jobs idle ended stop 
 delivered_desk (Err e) library old new job outcome begun jobs idle ended stop d o within there is
     same room =
     subst (λ engine. IsDesk (record {
-      engine = engine; library = library; begun = begun; jobs = jobs; idle = idle; ended = ended;
+      engine = engine;
+      library = library;
+      begun = begun;
+      jobs = jobs;
+      idle = idle;
+      ended = ended;
       stop = stop;
     })) (sym same) d
 

@@ -110,7 +110,15 @@ fn a_session_without_contents(rt: HostRuntime) -> Result<(), Fail> {
     // The second frame goes back at the end.
     let journal = session.end();
     assert_eq!(rt; journal.len(), 9);
-    assert!(rt; matches!(&journal[3], Entry::Absent { why: Gone::Missing, .. }));
+    assert!(rt;
+        matches!(
+            &journal[3],
+            Entry::Absent {
+                why: Gone::Missing,
+                ..
+            }
+        )
+    );
     assert!(rt; matches!(&journal[5], Entry::Returned { id: 1, .. }));
     assert!(rt; matches!(&journal[7], Entry::Returned { id: 2, .. }));
     assert!(rt; matches!(&journal[8], Entry::Closed { .. }));
