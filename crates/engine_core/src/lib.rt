@@ -24,3 +24,6 @@ mod views;
 
 pub use engine::Core;
 pub use error::{LookError, OpenError, RetryError, TakeError};
+
+#[cfg(test)]
+mod tests;
